@@ -10,7 +10,8 @@ use Rattle.mx_chain.specs.Outcomes.{OutcomeValue, IsOutcome}
 use Rattle.mx_save.specs.Bodies.{content_of}
 use Rattle.mx_save_book.specs.Bodies.{IsWholeBody}
 
-joins : (x : List ℕ) (ps : List Part) → content_of (map (λ p. slice_range x p.start p.end) ps) ≡ joined x ps
+-- the content of the parts of a body is what these are, joined
+pub joins : (x : List ℕ) (ps : List Part) → content_of (map (λ p. slice_range x p.start p.end) ps) ≡ joined x ps
 joins x [] = refl
 joins x (p ∷ ps) = ap (λ ys. slice_range x p.start p.end ++ ys) (joins x ps)
 

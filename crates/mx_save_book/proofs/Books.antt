@@ -33,10 +33,10 @@ use Rattle.mx_save_book.specs.declared.job.Job.{Job}
 use Rattle.mx_save_book.specs.declared.job.Slot.{Slot}
 use Rattle.mx_save_book.specs.declared.job.Slot.TheVariants as slot
 use Rattle.mx_save_book.proofs.Calls.{calls_later}
-use Rattle.mx_save_book.specs.Jobs.{told_refusals, AreNamed, BookValue, CanAsk, GrowsBy, GrowsFor, HandsBack, HasEnded, HasFound, HoldsOf, IsAccount, IsBook, IsFailedEnd, IsLaterLedger, IsNameAt, IsTold, IsTry, MayName, Pends, Refuses, Saves, State, is_saved, is_taken, is_told_saved, job_at, job_of, refused_end, state_of}
+use Rattle.mx_save_book.specs.Jobs.{told_refusals, AreNamed, AreWhole, BookValue, CanAsk, GrowsBy, GrowsFor, HandsBack, HasEnded, HasFound, HoldsOf, IsAccount, IsBook, IsFailedEnd, IsLaterLedger, IsNameAt, IsTold, IsTry, MayName, Pends, Refuses, Saves, State, is_saved, is_taken, is_told_saved, job_at, job_of, refused_end, state_of}
 use Rattle.mx_save_book.specs.Lines.{PrintedEndValue}
 use Rattle.mx_save_book.specs.Books.{Delays, HaveEnded, IsFoundAt, LeavesSlot, WaitsAgain, delay_of, next_try}
-use Rattle.mx_save_book.proofs.Names.{all_given_more, fresh_on, given_more, given_new, given_on, is_fresh, is_new, saved_on}
+use Rattle.mx_save_book.proofs.Names.{all_given_more, fresh_on, given_more, given_new, given_on, is_fresh, is_new, saved_on, whole_on}
 use Rattle.mx_save_book.proofs.Slots.{as_many, cases, fresh_count, fresh_none, inside, none, one_less, one_more, stays, there}
 
 -- a sum that fits
@@ -231,6 +231,7 @@ stopped b now s n m bases others more name is asking urls told grows later = rec
       subst (λ k. AllByRecursion (IsTold k now.urls now.ledger) now.told) (sym asking)
       (subst (λ l. AllByRecursion (IsTold b.asking l now.ledger) now.told) (sym urls)
       (subst (AllByRecursion (IsTold b.asking (b.urls ++ more) now.ledger)) (sym told) one));
+  whole = whole_on name b.ledger.entries now.ledger.entries is.whole grows;
   going = λ e. absurd (cc);
 }
 
@@ -247,8 +248,8 @@ stopped_later b now s n m bases others name is asking urls told grows later =
     stopped b now s n m bases others [] name is asking (urls ∙ sym (append-nil b.urls)) told grows later
 
 -- where all holds, what was reported does
-pub account : (b : State) (s : Bool) (n : ℕ) (bases : List (List ℕ)) → IsBook b n bases → IsAccount b s n bases
-account b s n bases is = record { told = is.told; going = λ e. is }
+pub account : (b : State) (s : Bool) (n : ℕ) (bases : List (List ℕ)) → AreWhole b.ledger.entries → IsBook b n bases → IsAccount b s n bases
+account b s n bases whole is = record { told = is.told; whole = whole; going = λ e. is }
 
 ended_more : (ts : List PrintedEndValue) (t : PrintedEndValue) (place : ℕ) → HasEnded ts place → HasEnded (ts ++ t ∷ []) place
 ended_more ts t place h = (h.0, Contains-append_left ts (t ∷ []) h.0 h.1, h.2)
@@ -274,14 +275,14 @@ owed_on : (name : List ℕ) (old new : Saves) (ts : List PrintedEndValue) (t : P
 owed_on name old new ts t grows owed =
     elim grows [
       | inl other ↦ omega (arith, owed, ap length other.1, unsaved_more ts t other.0)
-      | inr one ↦ omega (arith, owed, ap length one.2, saved_more ts t one.0)
+      | inr one ↦ omega (arith, owed, ap length one.3, saved_more ts t one.0)
     ]
 
 pub grows_by : (name : List ℕ) (v : Verdict) (old new : Saves) → GrowsFor name v old new → GrowsBy name old new
 grows_by name v old new grows =
     elim grows [
       | inl other ↦ inl other.1
-      | inr one ↦ inr (one.1, one.2)
+      | inr one ↦ inr (one.1, one.2, one.3)
     ]
 
 -- a run begins
@@ -517,8 +518,8 @@ closed b read bases at job e ts l is more end was url may grows_for later holds 
     })
 
 -- all have ended
-pub ended : (b : State) (read : ℕ) (bases : List (List ℕ)) → IsBook b read bases → count_by is_taken b.slots ≡ 0 → HaveEnded b.asking b.urls b.ledger b.told
-ended b read bases is empty = record {
+pub ended : (b : State) (read : ℕ) (bases : List (List ℕ)) → AreWhole b.ledger.entries → IsBook b read bases → count_by is_taken b.slots ≡ 0 → HaveEnded b.asking b.urls b.ledger b.told
+ended b read bases whole is empty = record {
   holds = is.told;
   each = λ place lt. elim (is.each place lt) [
     | inl h ↦ absurd (none b.slots h.0 h.1 empty h.2)
@@ -526,6 +527,7 @@ ended b read bases is empty = record {
   ];
   count = omega (arith, is.count, empty);
   owed = is.owed;
+  whole = whole;
 }
 
 -- the same, as the calls leave it
@@ -589,6 +591,10 @@ uncounted slots none_there = fresh_count slots (all_free slots none_there)
 pub none_taken : (slots : List Slot) → ((i : ℕ) (p : Job) → job_at slots i ≡ Some p → ⊥) → count_by is_taken slots ≡ 0
 none_taken slots none_there = uncounted slots none_there
 
+-- none was saved
+pub none_whole : (saves : Saves) → saves ≡ [] → AreWhole saves
+none_whole saves none = subst AreWhole (sym none) tt
+
 -- and so of a book
 pub told_of : {W : Type 0} (was now : BookValue W) (read : ℕ) (bases : List (List ℕ)) → was ≡ now → IsAccount (state_of was) was.is_stopped read bases
     → AllByRecursion (IsTold now.asking now.urls now.ledger) now.lines.told
@@ -596,12 +602,16 @@ told_of {W = W} was now read bases same is =
     let P : BookValue W → Type 0 = λ b. AllByRecursion (IsTold b.asking b.urls b.ledger) b.lines.told in
     subst P same is.told
 
+pub whole_of : {W : Type 0} (was now : BookValue W) (read : ℕ) (bases : List (List ℕ)) → was ≡ now → IsAccount (state_of was) was.is_stopped read bases
+    → AreWhole now.ledger.entries
+whole_of {W = W} was now read bases same is = let P : BookValue W → Type 0 = λ b. AreWhole b.ledger.entries in subst P same is.whole
+
 pub ended_of : {W : Type 0} (was now : BookValue W) (read : ℕ) (bases : List (List ℕ)) → was ≡ now → IsAccount (state_of was) was.is_stopped read bases
     → now.is_stopped ≡ false → count_by is_taken now.slots ≡ 0 → HaveEnded now.asking now.urls now.ledger now.lines.told
 ended_of {W = W} was now read bases same book going empty =
     let P : BookValue W → Type 0 = λ b. IsAccount (state_of b) b.is_stopped read bases in
     let is = subst P same book in
-    ended (state_of now) read bases (is.going going) empty
+    ended (state_of now) read bases is.whole (is.going going) empty
 
 pub job_within : (slots : List Slot) (i : ℕ) (p : Job) → job_at slots i ≡ Some p → i < length slots
 job_within [] i p is = absurd (cc)
@@ -697,6 +707,7 @@ pub account_later : (b : State) (s : Bool) (read : ℕ) (bases : List (List ℕ)
     → IsLaterLedger b.ledger l → IsAccount (record b { ledger = l }) s read bases
 account_later b s read bases l is kept later = record {
   told = told_on b.asking b.urls [] b.ledger l b.told (inl kept) later is.told;
+  whole = subst AreWhole (sym kept) is.whole;
   going = λ e. later_on b read bases l (is.going e) kept later;
 }
 

@@ -1,4 +1,4 @@
-mod Bodies
+pub mod Bodies
 mod Books
 mod Calls
 mod Fails

@@ -7,7 +7,7 @@ use Rattle.mx_chain.specs.Outcomes.{OutcomeValue}
 use Rattle.mx_file_name.specs.Names.{base_name, count_of, names_from, names_of, numbered}
 use Rattle.mx_file_name.specs.Laws.{AreDistinct, NamesAreDistinct}
 use Rattle.mx_save.specs.Ledgers.{IsFresh}
-use Rattle.mx_save_book.specs.Jobs.{GrowsBy, Saves}
+use Rattle.mx_save_book.specs.Jobs.{AreWhole, GrowsBy, Saves}
 
 from_more : (earlier urls : List (List ℕ)) (url : List ℕ)
     → names_from earlier (urls ++ url ∷ []) ≡ names_from earlier urls ++ numbered (base_name url) (count_of (earlier ++ map base_name urls) (base_name url)) ∷ []
@@ -69,7 +69,7 @@ pub fresh_on : (name other : List ℕ) (old new : Saves) → name ≢ other → 
 fresh_on name other old new apart fresh grows =
     elim grows [
       | inl same ↦ subst (IsFresh name) (sym same) fresh
-      | inr one ↦ subst (IsFresh name) (sym one.1) (apart, fresh)
+      | inr one ↦ subst (IsFresh name) (sym one.2) (apart, fresh)
     ]
 
 pub given_on : (names : List (List ℕ)) (name : List ℕ) (old new : Saves) → Contains names name → AllByRecursion (λ e. Contains names e.0) old → GrowsBy name old new
@@ -77,7 +77,7 @@ pub given_on : (names : List (List ℕ)) (name : List ℕ) (old new : Saves) →
 given_on names name old new has all grows =
     elim grows [
       | inl same ↦ subst (AllByRecursion (λ e. Contains names e.0)) (sym same) all
-      | inr one ↦ subst (AllByRecursion (λ e. Contains names e.0)) (sym one.1) (has, all)
+      | inr one ↦ subst (AllByRecursion (λ e. Contains names e.0)) (sym one.2) (has, all)
     ]
 
 -- what was saved still is
@@ -85,5 +85,13 @@ pub saved_on : (name : List ℕ) (old new : Saves) (entry : List ℕ × OutcomeV
 saved_on name old new entry grows has =
     elim grows [
       | inl same ↦ subst (λ l. Contains l entry) (sym same) has
-      | inr one ↦ subst (λ l. Contains l entry) (sym one.1) (let k = has.0 in (suc k, omega (arith, has.1), has.2))
+      | inr one ↦ subst (λ l. Contains l entry) (sym one.2) (let k = has.0 in (suc k, omega (arith, has.1), has.2))
+    ]
+
+-- and each body that was saved is whole
+pub whole_on : (name : List ℕ) (old new : Saves) → AreWhole old → GrowsBy name old new → AreWhole new
+whole_on name old new whole grows =
+    elim grows [
+      | inl same ↦ subst AreWhole (sym same) whole
+      | inr one ↦ subst AreWhole (sym one.2) (one.1, whole)
     ]

@@ -17,7 +17,7 @@ use Rattle.mx_save_book.specs.declared.job.Job.{Job}
 use Rattle.mx_save_book.specs.declared.job.Slot.{Slot}
 use Rattle.mx_save_book.specs.declared.job.Slot.TheVariants as slot
 use Rattle.mx_save_book.specs.Lines.{LinesValue, PrintedEndValue}
-use Rattle.mx_save_book.specs.Jobs.{Asks, BookValue, HasEnded, HasFound, IsTold, is_told_saved, job_at}
+use Rattle.mx_save_book.specs.Jobs.{AreWhole, Asks, BookValue, HasEnded, HasFound, IsTold, is_told_saved, job_at}
 
 -- no URL was read yet
 pub record IsFreshBook {W : Type 0} (a : Asking) (l : LedgerValue OutcomeValue) (ls : LinesValue W) (ss : List Slot) (b : BookValue W) : Type 0 where
@@ -136,9 +136,10 @@ awaits_at slots i t = option_map_or (awaits t) (slice_get slots i) false
 -- rule save-bodies: A body is saved for a URL that is reported as saved, and for no other.
 --
 -- All URLs have ended: what was reported holds, each URL was reported, and as many ends were reported as there are URLs; and no more bodies
--- were saved than URLs were reported as saved: of one that failed, or was skipped, nothing was.
+-- were saved than URLs were reported as saved: of one that failed, or was skipped, nothing was. Each of these bodies is whole.
 pub record HaveEnded (asking : Asking) (urls : List (List ℕ)) (l : LedgerValue OutcomeValue) (told : List PrintedEndValue) : Type 0 where
   pub holds : AllByRecursion (IsTold asking urls l) told
   pub each : (place : ℕ) → place < length urls → HasEnded told place
   pub count : length told ≡ length urls
   pub owed : length l.entries ≡ count_by is_told_saved told
+  pub whole : AreWhole l.entries

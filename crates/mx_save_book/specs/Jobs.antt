@@ -67,6 +67,10 @@ job_at slots i = option_map_or job_of (slice_get slots i) None
 abbrev pub Saves : Type 0
 Saves = List (List ℕ × OutcomeValue)
 
+-- each of them is whole
+abbrev pub AreWhole : Saves → Type 0
+AreWhole saves = AllByRecursion (λ e. IsWholeBody e.1) saves
+
 -- a try of a URL, counted from 1
 abbrev pub IsTry : Asking → ℕ → Type 0
 IsTry asking tries = (1 ≤ tries) × (tries ≤ asking.retries + 1)
@@ -285,9 +289,11 @@ pub record IsBook (b : State) (n : ℕ) (names : List (List ℕ)) : Type 0 where
   pub count : length b.urls ≡ count_by is_taken b.slots + length b.told
   pub owed : length b.ledger.entries ≡ count_by is_told_saved b.told
 
--- What holds of every book, also of a run that has stopped: what was reported. Unless it has, all else holds, too.
+-- What holds of every book, also of a run that has stopped: what was reported, and each body that was saved is whole. Unless it has, all else
+-- holds, too.
 pub record IsAccount (b : State) (is_stopped : Bool) (n : ℕ) (names : List (List ℕ)) : Type 0 where
   pub told : AllByRecursion (IsTold b.asking b.urls b.ledger) b.told
+  pub whole : AreWhole b.ledger.entries
   pub going : is_stopped ≡ false → IsBook b n names
 
 -- more was done to the folder of the same run
@@ -296,15 +302,15 @@ pub record IsLaterLedger (old new : LedgerValue OutcomeValue) : Type 0 where
   pub flush : new.flush ≡ old.flush
   pub later : IsLater old.steps new.steps
 
--- the saves grow by this name, if they do
+-- the saves grow by a whole body under this name, if they do
 abbrev pub GrowsBy : List ℕ → Saves → Saves → Type 0
-GrowsBy name old new = (new ≡ old) ⊎ ((outcome : OutcomeValue) × (new ≡ (name, outcome) ∷ old))
+GrowsBy name old new = (new ≡ old) ⊎ ((outcome : OutcomeValue) × IsWholeBody outcome × (new ≡ (name, outcome) ∷ old))
 
 -- rule save-bodies
--- they grow by one where a URL is reported as saved, and only there
+-- they grow by one whole body where a URL is reported as saved, and only there
 abbrev pub GrowsFor : List ℕ → Verdict → Saves → Saves → Type 0
 GrowsFor name v old new =
-    ((is_saved v ≡ false) × (new ≡ old)) ⊎ ((is_saved v ≡ true) × (outcome : OutcomeValue) × (new ≡ (name, outcome) ∷ old))
+    ((is_saved v ≡ false) × (new ≡ old)) ⊎ ((is_saved v ≡ true) × (outcome : OutcomeValue) × IsWholeBody outcome × (new ≡ (name, outcome) ∷ old))
 
 -- a file is named so, if one is
 abbrev pub MayName : List ℕ → Option (List ℕ) → Type 0

@@ -4,7 +4,7 @@ ghost use Rattle.std.specs.List.{AllByRecursion};
 ghost use Rattle.mx_request.specs.Request.{IsRequest};
 ghost use Rattle.mx_save_rules.specs.Ends.{skipped_end};
 ghost use Rattle.mx_request.specs.declared.error.RequestError.TheVariants as refusal;
-ghost use Rattle.mx_save_book.specs.Jobs.{Asks, CanAsk, IsLaterLedger, IsTold, Refuses, is_taken, job_at, refused_end};
+ghost use Rattle.mx_save_book.specs.Jobs.{AreWhole, Asks, CanAsk, IsLaterLedger, IsTold, Refuses, is_taken, job_at, refused_end};
 ghost use Rattle.mx_save_book.specs.Books.{Delays, HasNoneAdded, HaveEnded, IsAdded, IsClosed, IsFoundAt, IsFreshBook, IsJobFor, IsPutBack, IsSameRun, LeavesSlot, Retries, StandsAt, WaitsAgain, awaits_at, delay_of, next_try};
 ghost use Rattle.mx_save_book.specs.Lines.{last_of, tally_of};
 ghost use Rattle.mx_save_book.specs.declared.job.Slot.TheVariants as slot;
@@ -32,8 +32,8 @@ use std::{mem, str};
 /// The URLs of a run: those that have no end yet, each in a slot, and what the others ended with, which is printed and saved. Contracts see
 /// it as `BookValue`.
 ///
-/// What was reported holds: a body that was reported as saved is in its file, whole. Each URL of the run is in a slot, or was reported, once:
-/// once a call has answered an error, that isn't known any more.
+/// What was reported holds: a body that was reported as saved is in its file, whole. Each body that was saved is whole. Each URL of the run is
+/// in a slot, or was reported, once: once a call has answered an error, that isn't known any more.
 #[derive(Drop)]
 pub struct Book<F: Folder, W: Write> {
     alloc: Global,
@@ -420,6 +420,7 @@ impl<F: Folder, W: Write> Book<F, W> {
         ensures ledger { result.0 ≡ self.ledger }
         ensures lines { result.1 ≡ self.lines }
         ensures told { AllByRecursion (IsTold self.asking self.urls self.ledger) self.lines.told }
+        ensures whole { AreWhole self.ledger.entries }
         ensures ended { self.is_stopped ≡ false → count_by is_taken self.slots ≡ 0 → HaveEnded self.asking self.urls self.ledger self.lines.told }
     {
         (self.ledger, self.lines)

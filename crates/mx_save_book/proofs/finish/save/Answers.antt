@@ -1,4 +1,4 @@
-use Rattle.std.proofs.Common.{◌≡◌, ◌∙◌, ap, sym, subst, inl}
+use Rattle.std.proofs.Common.{◌≡◌, ◌∙◌, ap, sym, subst, inl, inr}
 use Rattle.mx_save_rules.specs.declared.decision.Decision.TheVariants as decision
 use Rattle.mx_save_rules.specs.declared.code.SaveCode.TheVariants as code
 use Rattle.mx_save_book.specs.Jobs.{MayName, is_saved}
@@ -12,6 +12,10 @@ pub returns-in-Ok-save_whole-clause-holds : goal.returns-in-Ok-save_whole-clause
 returns-in-Ok-save_whole-clause-holds g c =
     saved_holds c.args.asking.now c.save_whole.new.ledger c.args.ledger.now.entries c.args.job.url.items _ c.args.job.name c.args.job.tries c.transferred-told.result c.args.outcome c.saved.result
     c.in-Ok-save_whole.ensures.saved (c.in-Ok.ensures.ok ∙ c.as_str.ensures) c.save_whole.ensures.whole c.requires.asked c.requires.decided c.transferred-told.ensures c.requires.tries c.saved.ensures
+
+pub returns-in-Ok-save_whole-clause-grows : goal.returns-in-Ok-save_whole-clause-grows
+returns-in-Ok-save_whole-clause-grows g c =
+    inr (ap (λ x. is_saved x.verdict) c.saved.ensures, c.args.outcome, c.save_whole.ensures.whole, c.in-Ok-save_whole.ensures.saved)
 
 pub returns-in-Ok-save_whole-clause-name : goal.returns-in-Ok-save_whole-clause-name
 returns-in-Ok-save_whole-clause-name g c = subst (λ x. MayName c.args.job.name x.file) (sym c.saved.ensures) (c.in-Ok.ensures.ok ∙ c.as_str.ensures)

@@ -8,6 +8,7 @@ use Rattle.mx_save_book.proofs.book.Book.add.Goals as goal
 pub invariant_of-self : goal.invariant_of-self
 invariant_of-self g c = record {
   told = c.self.invariant.told;
+  whole = c.self.invariant.whole;
   going = λ e.
       let was = c.self.invariant.going e in
       let a = c.set_added.ensures in

@@ -6,9 +6,10 @@ use Rattle.mx_save_rules.specs.Decisions.{IsDecision}
 use Rattle.mx_save_rules.specs.declared.decision.Decision.TheVariants as decision
 use Rattle.mx_save_book.specs.declared.finish.NotEnded.TheVariants as not_ended
 use Rattle.mx_save_book.specs.Books.{Delays, WaitsAgain, next_try}
-use Rattle.mx_save_book.specs.Jobs.{IsBook}
+use Rattle.mx_save_book.specs.Jobs.{AreWhole, IsBook}
 use Rattle.mx_save_book.specs.declared.job.Slot.TheVariants as slot
 use Rattle.mx_save_book.proofs.Books.{account, back_again, closed, grows_by, handed_back, leaves_waiting, retry_tries, set_again, still_within, stopped_later}
+use Rattle.mx_save_book.proofs.Names.{whole_on}
 use Rattle.mx_save_book.proofs.book.Book.end_with.Goals as goal
 
 pub finish-requires-clause-fresh : goal.finish-requires-clause-fresh
@@ -30,7 +31,7 @@ put_back-requires g c =
 pub invariant_of-self-in-Ok : goal.invariant_of-self-in-Ok
 invariant_of-self-in-Ok g c =
     let was = c.self.invariant.going (ap (λ b. b.is_stopped) c.self.view_is ∙ c.requires.going) in
-    account _ false _ _
+    account _ false _ _ (whole_on c.in-Some.job.name _ _ c.self.invariant.whole (grows_by c.in-Some.job.name c.in-Ok.end.verdict _ _ c.in-Ok.ensures.grows))
     (subst (λ l. IsBook (record {
       asking = c.self.inside.asking;
       urls = map (λ u. u.items) c.self.inside.urls;
@@ -60,7 +61,7 @@ invariant_of-self-in-Err-Unopened g c =
     let back = handed_back job c.in-Err-Unopened.job _ _ c.in-Err-Unopened.ensures.back c.in-Err-Unopened.field-0-is in
     let tries = retry_tries c.self.inside.asking c.self.inside.slots.items c.args.at job put.next code.CouldntConnect c.status.result c.delay-delay.result c.delay-delay.ensures (sym c.is_some-may_retry.ensures ∙ back.1) there
     (was.pending c.args.at job there).tries (put.tries ∙ ap (λ j. next_try j.tries) back.0) in
-    account _ false _ _
+    account _ false _ _ (subst AreWhole (sym c.in-Err-Unopened.ensures.kept) c.self.invariant.whole)
     (back_again _ c.self.inside.read c.self.inside.names c.args.at job c.in-Err-Unopened.job put.next c.take_job.new.slots.items c.put_back.new.slots.items
     c.finish.new.ledger was there c.take_job.ensures.free put.is back.0
     put.place put.url put.name tries c.in-Err-Unopened.ensures.kept c.finish.ensures.run)

@@ -19,7 +19,7 @@ invariant_of-self-2 g c =
     let job = c.in-Some.job in
     let there = sym c.take_job.ensures.job ∙ c.in-Some.is in
     let found = subst (λ b. IsFoundAt b.slots c.args.at b.ledger) (sym c.self.view_is) c.requires.found in
-    account _ false _ _
+    account _ false _ _ c.self.invariant.whole
     (subst (λ l. IsBook (record {
       asking = c.self.inside.asking;
       urls = map (λ u. u.items) c.self.inside.urls;

@@ -18,7 +18,7 @@ invariant_of-self-in_err-name g c =
 pub invariant_of-self-2 : goal.invariant_of-self-2
 invariant_of-self-2 g c =
     let was = c.self.invariant.going (ap (λ b. b.is_stopped) c.self.view_is ∙ c.requires.going) in
-    account _ false _ _
+    account _ false _ _ c.self.invariant.whole
     (stood_as _ c.self.inside.read _ c.self.inside.names _ _ _ c.args.at _ was c.in-Some.ensures.0 c.in-Some.ensures.1
     (ap (map (λ u. u.items)) c.show.ensures ∙ texts_push (λ u. u.items) c.self.inside.urls c.args.url)
     (ap (map (λ u. u.items)) c.show-2.ensures ∙ texts_push (λ u. u.items) c.self.inside.named c.args.url)
