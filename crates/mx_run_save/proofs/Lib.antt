@@ -1,2 +1,3 @@
+mod Leaves
 mod Refused
 mod Runs

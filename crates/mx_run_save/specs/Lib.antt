@@ -4,4 +4,5 @@ pub mod Runs
 pub mod Saved
 pub mod Screens
 pub mod Status
+pub mod Told
 pub mod Unbegun

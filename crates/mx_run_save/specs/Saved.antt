@@ -28,7 +28,8 @@ pub record SavesIn (save : Save) (asking : Asking) (given : Option (List (List �
   pub all : (every : List (List ℕ)) → given ≡ Some every → every ≡ urls
   pub ended : HaveEnded asking urls ledger told
 
--- What was reported holds, also where the run has stopped; and what was saved is in the folder, as of a run that hasn't.
+-- What was reported holds, and each body that was saved is whole, also where the run has stopped; and what was saved is in the folder, as of a
+-- run that hasn't.
 pub record TellsOfFolder (save : Save) (asking : Asking) (given : Option (List (List ℕ))) (old new : List Step) {W : Type 0} (lines : LinesValue W) : Type 0 where
   pub ledger : LedgerValue OutcomeValue
   pub whole : IsLedger parts_of ledger

@@ -7,6 +7,7 @@ mod polled;
 mod run;
 mod status;
 mod terminal;
+mod told;
 mod unbegun;
 mod unread;
 

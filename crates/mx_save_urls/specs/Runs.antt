@@ -4,7 +4,7 @@ use Rattle.std.specs.List.{AllByRecursion}
 use Rattle.mx_chain.specs.Outcomes.{OutcomeValue}
 use Rattle.mx_save.specs.Ledgers.{LedgerValue}
 use Rattle.mx_save_book.specs.Books.{HaveEnded}
-use Rattle.mx_save_book.specs.Jobs.{IsTold}
+use Rattle.mx_save_book.specs.Jobs.{AreWhole, IsTold}
 use Rattle.mx_save_book.specs.Lines.{LinesValue}
 use Rattle.mx_save_book.specs.declared.asking.Asking.{Asking}
 
@@ -25,8 +25,10 @@ pub record SavesAll (asking : Asking) (given : Option (List (List ℕ))) {W : Ty
   pub ended : HaveEnded asking urls ledger lines.told
 
 -- What was reported holds, also where the run has stopped: of one that was reported as saved the whole body of a response to the last request
--- of its chain is under the name that was reported. The URLs are those that were read: where it is known which there were, the first of these.
+-- of its chain is under the name that was reported. Each body that was saved is whole, whether its URL was reported or not. The URLs are those
+-- that were read: where it is known which there were, the first of these.
 pub record TellsTruly (asking : Asking) (given : Option (List (List ℕ))) {W : Type 0} (ledger : LedgerValue OutcomeValue) (lines : LinesValue W) : Type 0 where
   pub urls : List (List ℕ)
   pub first : (every : List (List ℕ)) → given ≡ Some every → (rest : List (List ℕ)) × (every ≡ urls ++ rest)
   pub told : AllByRecursion (IsTold asking urls ledger) lines.told
+  pub whole : AreWhole ledger.entries

@@ -42,5 +42,6 @@ returns-clause-told g c =
         urls = t.urls;
         first = λ every is. t.first every (given ∙ is);
         told = told_later c.args.asking t.urls old new c.save_all-ledger.result.lines.told refl later t.told;
+        whole = t.whole;
       };
     }

@@ -1,7 +1,7 @@
 use Rattle.std.proofs.Common.{◌∙◌, ap, refl, subst, sym, [], ◌++◌}
 use Rattle.std.specs.List.{AllByRecursion}
 use Rattle.mx_save_book.specs.Books.{HasNoneAdded}
-use Rattle.mx_save_book.specs.Jobs.{IsTold}
+use Rattle.mx_save_book.specs.Jobs.{AreWhole, IsTold}
 use Rattle.mx_save_urls.specs.Works.{AreBroughtOn}
 use Rattle.mx_save_urls.proofs.Runs.{none_added}
 use Rattle.mx_save_urls.proofs.Waits.{none_waiting}
@@ -22,6 +22,7 @@ returns-in-Err-clause-told g c = record {
   urls = [];
   first = λ every is. (every, refl);
   told = subst (AllByRecursion (IsTold c.args.asking [] c.args.ledger)) (sym c.requires.fresh.1) tt;
+  whole = subst AreWhole (sym c.requires.fresh.0) tt;
 }
 
 pub returns-clause-told : goal.returns-clause-told
@@ -36,4 +37,5 @@ returns-clause-told g c =
       told = subst (λ l. AllByRecursion (IsTold c.args.asking book.urls l) c.end-ledger.result.1.told) (sym c.end-ledger.ensures.ledger)
           (subst (λ l. AllByRecursion (IsTold c.args.asking book.urls book.ledger) l.told) (sym c.end-ledger.ensures.lines)
           (subst (λ a. AllByRecursion (IsTold a book.urls book.ledger) book.lines.told) asking c.end-ledger.ensures.told));
+      whole = subst (λ l. AreWhole l.entries) (sym c.end-ledger.ensures.ledger) c.end-ledger.ensures.whole;
     }
