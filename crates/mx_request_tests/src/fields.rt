@@ -159,9 +159,7 @@ fn placed(alloc: Global, c: char, place: usize) -> Result<String, AllocError> {
 fn count_of(bytes: &[u8], byte: u8) -> usize {
     let mut count = 0usize;
     for other in bytes {
-        if *other == byte {
-            count = count.saturating_add(1);
-        }
+        count = count.saturating_add(usize::from(*other == byte));
     }
     count
 }
@@ -176,19 +174,16 @@ fn line_ends(alloc: Global, settings: Settings) -> Result<(usize, usize), Reques
 }
 
 /// Whether a field is refused exactly where it isn't allowed, and a request that is built has no line beside its own.
-fn is_field_right(
-    alloc: Global,
-    name: &str,
-    value: &str,
-    is_allowed: bool,
-) -> Result<bool, AllocError> {
+fn is_field_right(alloc: Global, name: &str, value: &str, is_allowed: bool) -> bool {
     let expected = if is_allowed {
         Ok((5, 5))
     } else {
         Err(RequestError::BadField)
     };
-    let settings = with_field(alloc, name, value)?;
-    Ok(line_ends(alloc, settings) == expected)
+    match with_field(alloc, name, value) {
+        Ok(settings) => line_ends(alloc, settings) == expected,
+        Err(AllocError) => false,
+    }
 }
 
 /// Whether a name and a value with the character are allowed.
@@ -202,52 +197,45 @@ fn are_allowed(c: char, place: usize) -> (bool, bool) {
 }
 
 /// Whether a field of this name, and one of this value, are right.
-fn is_text_right(alloc: Global, text: &str, allowed: (bool, bool)) -> Result<bool, AllocError> {
+fn is_text_right(alloc: Global, text: &str, allowed: (bool, bool)) -> bool {
     let (as_name, as_value) = allowed;
-    let is_name_right = is_field_right(alloc, text, "v", as_name)?;
-    let is_value_right = is_field_right(alloc, "X", text, as_value)?;
-    Ok(is_name_right && is_value_right)
+    is_field_right(alloc, text, "v", as_name) & is_field_right(alloc, "X", text, as_value)
 }
 
 /// Whether names and values are right that have the character at that place of three.
-fn is_right_at(alloc: Global, c: char, place: usize) -> Result<bool, AllocError> {
-    let text = placed(alloc, c, place)?;
-    let is_right = is_text_right(alloc, text.as_str(), are_allowed(c, place));
-    drop(text);
-    is_right
+fn is_right_at(alloc: Global, c: char, place: usize) -> bool {
+    match placed(alloc, c, place) {
+        Ok(text) => is_text_right(alloc, text.as_str(), are_allowed(c, place)),
+        Err(AllocError) => false,
+    }
 }
 
 /// Whether they are at the first, the middle and the last place.
-fn is_character_right(alloc: Global, c: char) -> Result<bool, AllocError> {
-    for place in 0..3 {
-        if !is_right_at(alloc, c, place)? {
-            return Ok(false);
-        }
-    }
-    Ok(true)
+fn is_character_right(alloc: Global, c: char) -> bool {
+    is_right_at(alloc, c, 0) & is_right_at(alloc, c, 1) & is_right_at(alloc, c, 2)
 }
 
 /// Characters of two, three and four bytes.
 static LONG: [char; 3] = ['\u{7ff}', '\u{ffff}', '\u{10ffff}'];
 
 /// The first of them that isn't right in a name or in a value.
-fn wrong_long(alloc: Global) -> Result<Option<char>, AllocError> {
+fn wrong_long(alloc: Global) -> Option<char> {
     for c in &LONG {
-        if !is_character_right(alloc, *c)? {
-            return Ok(Some(*c));
+        if !is_character_right(alloc, *c) {
+            return Some(*c);
         }
     }
-    Ok(None)
+    None
 }
 
 /// The first character that isn't right in a name or in a value.
 ///
 /// The characters up to 255 have each byte below 128, the bytes 128 to 191 and two more; the others begin with bytes up to 244. No other
 /// byte is in a text.
-pub(crate) fn wrong_character(alloc: Global) -> Result<Option<char>, AllocError> {
+pub(crate) fn wrong_character(alloc: Global) -> Option<char> {
     for byte in 0..=255u8 {
-        if !is_character_right(alloc, char::from(byte))? {
-            return Ok(Some(char::from(byte)));
+        if !is_character_right(alloc, char::from(byte)) {
+            return Some(char::from(byte));
         }
     }
     wrong_long(alloc)

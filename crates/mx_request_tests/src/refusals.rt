@@ -45,23 +45,27 @@ static REFUSALS: [(RequestError, u32, Code, &str); 6] = [
 ];
 
 /// Whether a refusal has that message.
-fn tells(alloc: Global, refusal: RequestError, message: &str) -> Result<bool, AllocError> {
-    let text = refusal.to_string(alloc)?;
-    let is_so = text.as_str() == message;
-    drop(text);
-    Ok(is_so)
+fn tells(alloc: Global, refusal: RequestError, message: &str) -> bool {
+    match refusal.to_string(alloc) {
+        Ok(text) => text.as_str() == message,
+        Err(AllocError) => false,
+    }
+}
+
+/// Whether a refusal has that number, that code and that message.
+fn is_as_told(alloc: Global, row: &(RequestError, u32, Code, &'static str)) -> bool {
+    let (refusal, number, code, message) = *row;
+    tells(alloc, refusal, message) & (refusal.number() == number) & (refusal.code() == code)
 }
 
 /// The message of the first refusal that has others.
-pub(crate) fn wrong_refusal(alloc: Global) -> Result<Option<&'static str>, AllocError> {
+pub(crate) fn wrong_refusal(alloc: Global) -> Option<&'static str> {
     for row in &REFUSALS {
-        let (refusal, number, code, message) = *row;
-        let is_told = tells(alloc, refusal, message)?;
-        if !is_told || refusal.number() != number || refusal.code() != code {
-            return Ok(Some(message));
+        if !is_as_told(alloc, row) {
+            return Some(row.3);
         }
     }
-    Ok(None)
+    None
 }
 
 /// A text: its beginning, a character so many times, its end, its length, and what it is refused for.
@@ -197,19 +201,12 @@ static LOCATIONS: [Text; 9] = [
 ];
 
 /// Adds a text.
-fn add(long: &mut String, text: &Text) -> Result<(), AllocError> {
-    long.push_str(text.front)?;
+fn add(long: &mut String, text: &Text) -> bool {
+    let mut is_added = long.push_str(text.front).is_ok();
     for _ in 0..text.count {
-        long.push(text.unit)?;
+        is_added = long.push(text.unit).is_ok() & is_added;
     }
-    long.push_str(text.end)
-}
-
-/// A text.
-fn longer(alloc: Global, text: &Text) -> Result<String, AllocError> {
-    let mut long = String::new(alloc);
-    add(&mut long, text)?;
-    Ok(long)
+    long.push_str(text.end).is_ok() & is_added
 }
 
 /// What a text is refused for, as a URL or, where a request is followed, as a Location.
@@ -221,35 +218,30 @@ fn refusal_of(alloc: Global, text: &str, request: Option<&Request>) -> Option<Re
 }
 
 /// Whether a text has that length, and is refused for that.
-fn is_right(alloc: Global, text: &Text, request: Option<&Request>) -> Result<bool, AllocError> {
-    let long = longer(alloc, text)?;
+fn is_right(alloc: Global, text: &Text, request: Option<&Request>) -> bool {
+    let mut long = String::new(alloc);
+    let is_added = add(&mut long, text);
     let refused = refusal_of(alloc, long.as_str(), request);
-    let len = long.len();
-    drop(long);
-    Ok(len == text.len && refused == text.refused)
+    is_added & (long.len() == text.len) & (refused == text.refused)
 }
 
 /// The name of the first text that has another length, or is refused for something else.
-fn first_wrong(
-    alloc: Global,
-    texts: &[Text],
-    request: Option<&Request>,
-) -> Result<Option<&'static str>, AllocError> {
+fn first_wrong(alloc: Global, texts: &[Text], request: Option<&Request>) -> Option<&'static str> {
     for text in texts {
-        if !is_right(alloc, text, request)? {
-            return Ok(Some(text.name));
+        if !is_right(alloc, text, request) {
+            return Some(text.name);
         }
     }
-    Ok(None)
+    None
 }
 
 /// The name of the first URL that is so.
-pub(crate) fn wrong_url(alloc: Global) -> Result<Option<&'static str>, AllocError> {
+pub(crate) fn wrong_url(alloc: Global) -> Option<&'static str> {
     first_wrong(alloc, &URLS, None)
 }
 
 /// The name of the first Location that is so.
-pub(crate) fn wrong_location(alloc: Global) -> Result<Option<&'static str>, AllocError> {
+pub(crate) fn wrong_location(alloc: Global) -> Option<&'static str> {
     let url = "http://127.0.0.1:8080/a/b?c#d";
     match Request::build(alloc, Method::Get, url, Settings::new(alloc)) {
         Ok(request) => {
@@ -257,6 +249,6 @@ pub(crate) fn wrong_location(alloc: Global) -> Result<Option<&'static str>, Allo
             drop(request);
             wrong
         }
-        Err(_) => Ok(Some("the request before the Locations")),
+        Err(_) => Some("the request before the Locations"),
     }
 }

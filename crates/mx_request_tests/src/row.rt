@@ -2,7 +2,7 @@
 
 use crate::settings::{Given, kept_of, settings_of};
 use mx_request::{Endpoint, Request, RequestError, is_redirect};
-use mx_types::Method;
+use mx_types::{Method, Settings};
 use std::alloc::{AllocError, Global};
 
 /// What is seen of a request.
@@ -88,7 +88,7 @@ fn is_get(request: &Request, target: &str, host: &str) -> bool {
 
 /// Whether a copy of an endpoint equals it, and has that host and that port.
 fn is_copy(copy: &Endpoint, endpoint: &Endpoint, host: &str, port: u16) -> bool {
-    *copy == *endpoint && copy.host.as_str() == host && copy.port == port
+    (*copy == *endpoint) & (copy.host.as_str() == host) & (copy.port == port)
 }
 
 /// Whether an endpoint is copied so.
@@ -127,7 +127,8 @@ fn is_seen(alloc: Global, request: &Request, seen: &Seen) -> bool {
 
 /// Whether a request keeps what a chain keeps of its settings.
 fn is_kept(request: &Request, given: Given) -> bool {
-    (request.timeout_ms(), request.max_redirects()) == kept_of(given)
+    let (timeout_ms, max_redirects) = kept_of(given);
+    (request.timeout_ms() == timeout_ms) & (request.max_redirects() == max_redirects)
 }
 
 /// Whether a request with these settings gives what the row says.
@@ -197,46 +198,54 @@ fn follows(
     }
 }
 
-/// Whether a row goes as it should, with these hops.
-fn goes(alloc: Global, row: &Row, hops: &[Hop]) -> Result<bool, AllocError> {
-    let settings = settings_of(alloc, row.given)?;
+/// Whether a row goes as it should with these settings and these hops.
+fn goes_with(alloc: Global, settings: Settings, row: &Row, hops: &[Hop]) -> bool {
     let mut answer = Request::build(alloc, row.method, row.url, settings);
     let goes = follows(alloc, &mut answer, row, hops);
     drop(answer);
-    Ok(goes)
+    goes
+}
+
+/// Whether it does with its settings. It doesn't where there is no memory for them.
+fn goes(alloc: Global, row: &Row, hops: &[Hop]) -> bool {
+    match settings_of(alloc, row.given) {
+        Ok(settings) => goes_with(alloc, settings, row, hops),
+        Err(AllocError) => false,
+    }
 }
 
 /// The name of the first of these rows that doesn't.
-fn first_wrong_row(alloc: Global, rows: &[Row]) -> Result<Option<&'static str>, AllocError> {
+fn first_wrong_row(alloc: Global, rows: &[Row]) -> Option<&'static str> {
     for row in rows {
-        if !goes(alloc, row, row.hops)? {
-            return Ok(Some(row.name));
+        if !goes(alloc, row, row.hops) {
+            return Some(row.name);
         }
     }
-    Ok(None)
+    None
 }
 
 /// A name, the method of a request, and one hop.
 pub(crate) type Led = (&'static str, Method, Hop);
 
 /// The name of the first of these that doesn't go as it should, where requests at that endpoint are built with these settings.
-fn first_wrong_led(
-    alloc: Global,
-    given: Given,
-    rows: &[Led],
-) -> Result<Option<&'static str>, AllocError> {
+fn first_wrong_led(alloc: Global, given: Given, rows: &[Led]) -> Option<&'static str> {
     for one in rows {
-        let (name, method, hop) = *one;
-        let row = Row {
-            method,
-            given,
-            ..FROM
-        };
-        if !goes(alloc, &row, &[hop])? {
-            return Ok(Some(name));
+        if !leads(alloc, given, one) {
+            return Some(one.0);
         }
     }
-    Ok(None)
+    None
+}
+
+/// Whether one of them does.
+fn leads(alloc: Global, given: Given, led: &Led) -> bool {
+    let (_, method, hop) = *led;
+    let row = Row {
+        method,
+        given,
+        ..FROM
+    };
+    goes(alloc, &row, &[hop])
 }
 
 /// Rows of one kind. Those of one hop have no slice within them, which makes a shorter proof.
@@ -248,7 +257,7 @@ pub(crate) enum Rows {
 }
 
 /// The name of the first of these rows that doesn't go as it should.
-pub(crate) fn first_wrong(alloc: Global, rows: Rows) -> Result<Option<&'static str>, AllocError> {
+pub(crate) fn first_wrong(alloc: Global, rows: Rows) -> Option<&'static str> {
     match rows {
         Rows::Any(rows) => first_wrong_row(alloc, rows),
         Rows::Led(given, rows) => first_wrong_led(alloc, given, rows),
