@@ -2,7 +2,7 @@
 //! `mx_journal::definitions` read off that log.
 
 use crate::caller::{Caller, Said, Step};
-use crate::sample::{CodeEnding, NumberedWork, SEAT, Wrong, verdict};
+use crate::sample::{CodeEnding, NumberedWork, SEAT, verdict};
 use mx_journal::{Control, Log, definitions};
 use mx_types::{Code, Event, HandleId, OutOfMemory, State, Ticket};
 use std::alloc::Global;
@@ -31,13 +31,15 @@ fn numbers_agree(
     alloc: Global,
     control: &Control<NumberedWork, CodeEnding>,
     events: &[Event],
-) -> Result<bool, OutOfMemory> {
-    let running = definitions::running(alloc, events)?.len();
-    Ok(
-        control.running() as usize == running
-            && control.made(SEAT) as usize == definitions::made(events, SEAT)
-            && control.poll_ready(5) == definitions::is_ready(5, events),
-    )
+) -> bool {
+    match definitions::running(alloc, events) {
+        Ok(running) => {
+            (control.running() as usize == running.len())
+                & (control.made(SEAT) as usize == definitions::made(events, SEAT))
+                & (control.poll_ready(5) == definitions::is_ready(5, events))
+        }
+        Err(OutOfMemory) => false,
+    }
 }
 
 // Whether the states of handles 7 and 9 are those that are read off the log.
@@ -45,13 +47,13 @@ fn states_agree(
     alloc: Global,
     control: &Control<NumberedWork, CodeEnding>,
     events: &[Event],
-) -> Result<bool, OutOfMemory> {
+) -> bool {
+    let mut agree = true;
     for handle in [HandleId(7), HandleId(9)] {
-        if control.state(handle) != definitions::state_of(alloc, events, handle)? {
-            return Ok(false);
-        }
+        let told = definitions::state_of(alloc, events, handle);
+        agree = (told == Ok(control.state(handle))) & agree;
     }
-    Ok(true)
+    agree
 }
 
 // Whether the looks of the first three tickets are those that are read off the log.
@@ -59,22 +61,21 @@ fn looks_agree(
     alloc: Global,
     control: &Control<NumberedWork, CodeEnding>,
     events: &[Event],
-) -> Result<bool, OutOfMemory> {
+) -> bool {
+    let mut agree = true;
     for ticket in 0..3 {
-        let told = definitions::look_of(alloc, events, Ticket(ticket))?;
-        if control.look(Ticket(ticket)) != told {
-            return Ok(false);
-        }
+        let told = definitions::look_of(alloc, events, Ticket(ticket));
+        agree = (told == Ok(control.look(Ticket(ticket)))) & agree;
     }
-    Ok(true)
+    agree
 }
 
 fn are_handles(handles: &[HandleId], added: &[(HandleId, Ticket)]) -> bool {
     if handles.len() != added.len() {
         return false;
     }
-    for (handle, addition) in handles.iter().zip(added) {
-        if *handle != addition.0 {
+    for at in 0..added.len() {
+        if handles[at] != added[at].0 {
             return false;
         }
     }
@@ -85,8 +86,8 @@ fn are_tickets(tickets: &[Ticket], waiting: &[(Ticket, Code, u32)]) -> bool {
     if tickets.len() != waiting.len() {
         return false;
     }
-    for (ticket, message) in tickets.iter().zip(waiting) {
-        if *ticket != message.0 {
+    for at in 0..waiting.len() {
+        if tickets[at] != waiting[at].0 {
             return false;
         }
     }
@@ -98,9 +99,11 @@ fn handles_agree(
     alloc: Global,
     control: &Control<NumberedWork, CodeEnding>,
     events: &[Event],
-) -> Result<bool, OutOfMemory> {
-    let added = definitions::added(alloc, events)?;
-    Ok(are_handles(control.handles().as_slice(), added.as_slice()))
+) -> bool {
+    match definitions::added(alloc, events) {
+        Ok(added) => are_handles(control.handles().as_slice(), added.as_slice()),
+        Err(OutOfMemory) => false,
+    }
 }
 
 // Whether the core lists the tickets of the messages that the executable definitions find waiting.
@@ -108,32 +111,28 @@ fn messages_agree(
     alloc: Global,
     control: &Control<NumberedWork, CodeEnding>,
     events: &[Event],
-) -> Result<bool, OutOfMemory> {
-    let waiting = definitions::waiting(alloc, events)?;
-    Ok(are_tickets(control.waiting(), waiting.as_slice()))
+) -> bool {
+    match definitions::waiting(alloc, events) {
+        Ok(waiting) => are_tickets(control.waiting(), waiting.as_slice()),
+        Err(OutOfMemory) => false,
+    }
 }
 
-// Whether the core answers what the executable definitions read off its log.
-fn agrees(
-    alloc: Global,
-    control: &Control<NumberedWork, CodeEnding>,
-    events: &[Event],
-) -> Result<bool, OutOfMemory> {
-    Ok(
-        definitions::is_legal(alloc, events)?
-            && numbers_agree(alloc, control, events)?
-            && states_agree(alloc, control, events)?
-            && looks_agree(alloc, control, events)?
-            && handles_agree(alloc, control, events)?
-            && messages_agree(alloc, control, events)?,
-    )
+// Whether the core answers what the executable definitions read off its log. Where these find no memory it doesn't.
+fn agrees(alloc: Global, control: &Control<NumberedWork, CodeEnding>, events: &[Event]) -> bool {
+    (definitions::is_legal(alloc, events) == Ok(true))
+        & numbers_agree(alloc, control, events)
+        & states_agree(alloc, control, events)
+        & looks_agree(alloc, control, events)
+        & handles_agree(alloc, control, events)
+        & messages_agree(alloc, control, events)
 }
 
 // Whether these are added, claims are out or not, and there are so many events.
 fn is_as_before(caller: &Caller, handles: &[HandleId], is_out: bool, events: usize) -> bool {
-    caller.control.handles().as_slice() == handles
-        && caller.control.claim_out() == is_out
-        && caller.log.list.events().len() == events
+    (caller.control.handles().as_slice() == handles)
+        & (caller.control.claim_out() == is_out)
+        & (caller.log.list.events().len() == events)
 }
 
 // Makes a call after so many events, once more where it was refused memory, and nothing changed then: what it answers, and whether it was
@@ -144,25 +143,20 @@ fn make_again(
     step: Step,
     handles: &[HandleId],
     events: usize,
-) -> Result<(Said, bool), OutOfMemory> {
+) -> (Said, bool) {
     let is_out = caller.control.claim_out();
-    let said = caller.makes(alloc, step)?;
-    if said != Said::OutOfMemory {
-        return Ok((said, false));
+    let said = caller.makes(alloc, step);
+    if !matches!(said, Said::OutOfMemory) {
+        return (said, false);
     }
     if !is_as_before(caller, handles, is_out, events) {
-        return Ok((Said::Else, true));
+        return (Said::Else, true);
     }
-    Ok((caller.makes(alloc, step)?, true))
+    (caller.makes(alloc, step), true)
 }
 
 // The same, of handles that are added now.
-fn make(
-    alloc: Global,
-    caller: &mut Caller,
-    step: Step,
-    events: usize,
-) -> Result<(Said, bool), OutOfMemory> {
+fn make(alloc: Global, caller: &mut Caller, step: Step, events: usize) -> (Said, bool) {
     let before = caller.control.handles();
     make_again(alloc, caller, step, before.as_slice(), events)
 }
@@ -175,62 +169,52 @@ fn plays_call(
     at: usize,
     call: (Step, Said),
     refused: u32,
-) -> Result<bool, OutOfMemory> {
+) -> bool {
     let (step, said) = call;
-    let told = make(alloc, caller, step, at)?;
-    if told != (said, at == refused as usize)
-        || caller.control.len() as usize != at.wrapping_add(1)
-    {
-        return Ok(false);
-    }
+    let (told, is_refused) = make(alloc, caller, step, at);
+    let is_told = (told == said)
+        & (is_refused == (at == refused as usize))
+        & (caller.control.len() as usize == at.wrapping_add(1));
     if matches!(step, Step::Add(..)) {
-        let _claimed = caller.makes(alloc, Step::Claim)?;
+        caller.makes(alloc, Step::Claim);
     }
-    agrees(alloc, &caller.control, caller.log.list.events())
+    is_told & agrees(alloc, &caller.control, caller.log.list.events())
 }
 
 // The first call that answers otherwise.
-fn plays_all(
-    alloc: Global,
-    caller: &mut Caller,
-    refused: u32,
-) -> Result<Option<usize>, OutOfMemory> {
-    for (at, call) in SCRIPT.iter().enumerate() {
-        if !plays_call(alloc, caller, at, *call, refused)? {
-            return Ok(Some(at));
+fn plays_all(alloc: Global, caller: &mut Caller, refused: u32) -> Option<usize> {
+    for at in 0..SCRIPT.len() {
+        if !plays_call(alloc, caller, at, SCRIPT[at], refused) {
+            return Some(at);
         }
     }
     let nine = caller.control.state(HandleId(9));
-    if (nine, caller.control.made(SEAT)) != (State::Running(Ticket(2)), 12) {
-        return Ok(Some(14));
-    }
-    Ok(None)
+    let is_so = (nine == State::Running(Ticket(2))) & (caller.control.made(SEAT) == 12);
+    if is_so { None } else { Some(14) }
 }
 
 // The same of a new core, with a log that refuses its append of this number.
-fn plays(alloc: Global, refused: u32) -> Result<Option<usize>, OutOfMemory> {
-    let mut caller = Caller::new(alloc, 64, 0, Some(refused))?;
-    let wrong = plays_all(alloc, &mut caller, refused);
-    drop(caller);
-    wrong
+fn plays(alloc: Global, refused: u32) -> Option<usize> {
+    match Caller::new(alloc, 64, 0, Some(refused)) {
+        Ok(mut caller) => {
+            let wrong = plays_all(alloc, &mut caller, refused);
+            drop(caller);
+            wrong
+        }
+        Err(OutOfMemory) => Some(0),
+    }
 }
 
-// Of each append that may be refused.
-fn first_wrong(alloc: Global) -> Result<Option<Wrong>, OutOfMemory> {
+// Of each append that may be refused: fails with the first call that answers otherwise.
+fn play_each(alloc: Global) -> Result<(), Fail> {
     for refused in 0..15 {
-        if let Some(step) = plays(alloc, refused)? {
-            return Ok(Some(Wrong {
-                row: "a_refused_log_changes_nothing",
-                step,
-            }));
-        }
+        verdict("a_refused_log_changes_nothing", plays(alloc, refused))?;
     }
-    Ok(None)
+    Ok(())
 }
 
 /// A refused append changes nothing, and the core answers at each step what is read off its log.
 #[test]
 fn a_refused_log_changes_nothing(rt: HostRuntime) -> Result<(), Fail> {
-    let wrong = first_wrong(rt.alloc())?;
-    verdict(wrong)
+    play_each(rt.alloc())
 }

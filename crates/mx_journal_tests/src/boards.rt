@@ -271,47 +271,46 @@ fn read_all(reader: &mut BoardReader, ended: &AtomicBool) -> bool {
     false
 }
 
-/// What a thread does: it adds, or it reads.
+/// What a thread does: it adds, or it reads; not where there was no place for its reader.
 #[derive(Drop)]
 enum Role {
     Adds(Desk),
-    Reads(BoardReader),
+    Reads(Option<BoardReader>),
 }
 
 /// A thread's part, and whether it came as it should.
 #[derive(Drop)]
 struct Part {
     role: Role,
-    told: Result<bool, OutOfMemory>,
+    is_so: bool,
 }
 
 impl Part {
+    fn new(role: Role) -> Part {
+        Part { role, is_so: false }
+    }
+
     // Plays it; the adder signals the readers that it has ended.
     fn play<R: Wait>(&mut self, rt: &R, alloc: Global, ended: &AtomicBool) {
-        self.told = match &mut self.role {
+        self.is_so = match &mut self.role {
             Role::Adds(desk) => {
                 let added = add_each(rt, alloc, desk);
                 ended.store(true, Ordering::SeqCst);
-                match added {
-                    Ok(()) => Ok(true),
-                    Err(OutOfMemory) => Err(OutOfMemory),
-                }
+                added.is_ok()
             }
-            Role::Reads(reader) => Ok(read_all(reader, ended)),
+            Role::Reads(Some(reader)) => read_all(reader, ended),
+            Role::Reads(None) => false,
         };
     }
 
     // Ends it, and closes the board: whether it came as it should.
-    fn end<R: Wait>(self, rt: &R) -> Result<bool, OutOfMemory> {
-        let Part { role, told } = self;
+    fn end<R: Wait>(self, rt: &R) -> bool {
+        let Part { role, is_so } = self;
         match role {
-            Role::Adds(desk) => {
-                let closed = desk.close(rt);
-                Ok(told? && closed == ADDED)
-            }
+            Role::Adds(desk) => is_so & (desk.close(rt) == ADDED),
             Role::Reads(reader) => {
                 drop(reader);
-                told
+                is_so
             }
         }
     }
@@ -320,25 +319,17 @@ impl Part {
 // The parts of three threads: one adds, and two read.
 fn parts_of<R: Wait>(rt: &R, alloc: Global) -> Result<Vec<Part>, OutOfMemory> {
     let (mut desk, _) = Desk::new(rt, alloc)?;
-    let mut parts = Vec::with_capacity(alloc, 3)?;
-    for n in 0..2 {
-        if let Some(reader) = desk.reader(Who::Seat(n)) {
-            parts.push(Part {
-                role: Role::Reads(reader),
-                told: Ok(false),
-            })?;
-        }
-    }
-    parts.push(Part {
-        role: Role::Adds(desk),
-        told: Ok(false),
-    })?;
-    Ok(parts)
+    let first = desk.reader(Who::Seat(0));
+    let second = desk.reader(Who::Seat(1));
+    Ok(vec![in alloc;
+        Part::new(Role::Reads(first)),
+        Part::new(Role::Reads(second)),
+        Part::new(Role::Adds(desk)),
+    ]?)
 }
 
-/// Two threads read what a third adds: whether all is as it should be.
-pub fn three_threads<R: Threads + Wait + Sync>(rt: &R, alloc: Global) -> Result<bool, OutOfMemory> {
-    let mut parts = parts_of(rt, alloc)?;
+// Plays them at the same time: whether all is as it should be.
+fn play_parts<R: Threads + Wait + Sync>(rt: &R, alloc: Global, parts: &mut Vec<Part>) -> bool {
     let ended = AtomicBool::new(false);
     for_each_mut(
         rt,
@@ -349,9 +340,17 @@ pub fn three_threads<R: Threads + Wait + Sync>(rt: &R, alloc: Global) -> Result<
     let mut is_so = parts.len() == 3;
     for _ in 0..3 {
         if let Some(part) = parts.pop() {
-            is_so = part.end(rt)? && is_so;
+            is_so = part.end(rt) & is_so;
         }
     }
+    is_so
+}
+
+/// Two threads read what a third adds: whether all is as it should be.
+pub fn three_threads<R: Threads + Wait + Sync>(rt: &R, alloc: Global) -> Result<bool, OutOfMemory> {
+    let mut parts = parts_of(rt, alloc)?;
+    let is_so = play_parts(rt, alloc, &mut parts);
+    drop(parts);
     Ok(is_so)
 }
 

@@ -1,10 +1,12 @@
 //! A control core with its log, the calls that rows make on it, and what they answer.
+ghost use Rattle.std.specs.Prelude.{◌≡◌};
 ghost use Rattle.mx_types.specs.Limits.{IsHistory};
+ghost use Rattle.mx_types.specs.Origin.{no_request};
 
 use crate::callers::{claim_and_give_back, retire_and_see};
 use crate::sample::{CodeEnding, Held, NumberedWork, RefusesOnce, SEAT, WORKER};
 use mx_journal::{
-    AddReply, Control, FinishReply, GiveBackReply, InfoReply, Log, PauseReply, RemoveReply,
+    AddReply, Claim, Control, FinishReply, GiveBackReply, InfoReply, Log, PauseReply, RemoveReply,
     RetireReply, WakeupReply, definitions,
 };
 use mx_types::{Code, Event, HandleId, Look, OutOfMemory, State, Ticket, What};
@@ -86,7 +88,7 @@ pub enum Said {
     First(usize, Option<Ticket>),
     Events(u32, usize),
     OutOfMemory,
-    /// Something else is kept.
+    /// Something else is kept, or the test itself finds no memory.
     Else,
 }
 
@@ -155,34 +157,39 @@ impl Caller {
         }
     }
 
-    fn claim(&mut self, holds: bool) -> Result<Said, OutOfMemory> {
+    // Holds a claim with its work: what was said, where there is memory for that.
+    fn hold(&mut self, claim: Claim<NumberedWork>, job: NumberedWork, said: Said) -> Said
+        requires { claim.origin ≡ no_request }
+    {
+        if self.held.push(Held { claim, job }).is_ok() {
+            return said;
+        }
+        Said::Else
+    }
+
+    fn claim(&mut self, holds: bool) -> Said {
         let Some((claim, job)) = self.control.claim() else {
-            return Ok(Said::NoClaim);
+            return Said::NoClaim;
         };
         let said = Said::Claimed(claim.ticket().0, job.number);
         if holds {
-            self.held.push(Held { claim, job })?;
+            return self.hold(claim, job, said);
         }
-        Ok(said)
+        said
     }
 
-    fn finish(&mut self, code: Code) -> Result<Said, OutOfMemory> {
+    fn finish(&mut self, code: Code) -> Said {
         let Some(Held { claim, job }) = self.held.pop() else {
-            return Ok(Said::NoClaim);
+            return Said::NoClaim;
         };
-        Ok(
-            match self
-                .control
-                .finish(&mut self.log, WORKER, claim, CodeEnding { code })
-            {
-                FinishReply::Recorded => Said::Recorded,
-                FinishReply::Stale(end) => Said::StaleEnd(end.code),
-                FinishReply::OutOfMemory(claim, _end) => {
-                    self.held.push(Held { claim, job })?;
-                    Said::OutOfMemory
-                }
-            },
-        )
+        match self
+            .control
+            .finish(&mut self.log, WORKER, claim, CodeEnding { code })
+        {
+            FinishReply::Recorded => Said::Recorded,
+            FinishReply::Stale(end) => Said::StaleEnd(end.code),
+            FinishReply::OutOfMemory(claim, _end) => self.hold(claim, job, Said::OutOfMemory),
+        }
     }
 
     fn give_back(&mut self) -> Said {
@@ -224,23 +231,20 @@ impl Caller {
     }
 
     // What is kept is what the executable definition finds in the log, and is the journal then.
-    fn retire_to(&mut self, alloc: Global, whats: &[What]) -> Result<Said, OutOfMemory> {
-        let kept = self.control.kept(alloc)?;
-        self.retire_kept(alloc, kept.as_slice(), whats)
+    fn retire_to(&mut self, alloc: Global, whats: &[What]) -> Said {
+        match self.control.kept(alloc) {
+            Ok(kept) => self.retire_kept(alloc, kept.as_slice(), whats),
+            Err(OutOfMemory) => Said::Else,
+        }
     }
 
-    fn retire_kept(
-        &mut self,
-        alloc: Global,
-        kept: &[Event],
-        whats: &[What],
-    ) -> Result<Said, OutOfMemory> {
-        let are_told = are_retired(alloc, self.log.list.events(), kept)? && have(kept, whats);
+    fn retire_kept(&mut self, alloc: Global, kept: &[Event], whats: &[What]) -> Said {
+        let are_told = are_retired(alloc, self.log.list.events(), kept) & have(kept, whats);
         let said = self.retire();
-        if are_told && is_journal(&self.control, kept) {
-            return Ok(said);
+        if are_told & is_journal(&self.control, kept) {
+            return said;
         }
-        Ok(Said::Else)
+        Said::Else
     }
 
     // What changes nothing.
@@ -260,16 +264,28 @@ impl Caller {
         }
     }
 
+    // What ends a transfer, or retires.
+    fn ends(&mut self, alloc: Global, step: Step) -> Said {
+        match step {
+            Step::Finish(code) => self.finish(code),
+            Step::Retire => self.retire(),
+            Step::RetireTo(whats) => self.retire_to(alloc, whats),
+            Step::RetireAndSee(handle) => {
+                Said::State(retire_and_see(&mut self.control, HandleId(handle)))
+            }
+            _ => self.looks(step),
+        }
+    }
+
     /// Makes the call: what it answers.
-    pub fn makes(&mut self, alloc: Global, step: Step) -> Result<Said, OutOfMemory> {
-        Ok(match step {
+    pub fn makes(&mut self, alloc: Global, step: Step) -> Said {
+        match step {
             Step::Add(handle, number) => self.add(handle, number),
             Step::Pause(handle) => self.pause(handle, false),
             Step::Unpause(handle) => self.pause(handle, true),
             Step::Remove(handle) => self.remove(handle),
-            Step::Claim => self.claim(true)?,
-            Step::Next => self.claim(false)?,
-            Step::Finish(code) => self.finish(code)?,
+            Step::Claim => self.claim(true),
+            Step::Next => self.claim(false),
             Step::GiveBack => self.give_back(),
             Step::Undo => {
                 claim_and_give_back(&mut self.control);
@@ -277,13 +293,8 @@ impl Caller {
             }
             Step::Read => self.read(),
             Step::Wakeup => self.wakeup(),
-            Step::Retire => self.retire(),
-            Step::RetireTo(whats) => self.retire_to(alloc, whats)?,
-            Step::RetireAndSee(handle) => {
-                Said::State(retire_and_see(&mut self.control, HandleId(handle)))
-            }
-            _ => self.looks(step),
-        })
+            _ => self.ends(alloc, step),
+        }
     }
 }
 
@@ -292,8 +303,8 @@ fn have(events: &[Event], whats: &[What]) -> bool {
     if events.len() != whats.len() {
         return false;
     }
-    for (event, what) in events.iter().zip(whats) {
-        if event.what != *what {
+    for at in 0..whats.len() {
+        if events[at].what != whats[at] {
             return false;
         }
     }
@@ -301,9 +312,11 @@ fn have(events: &[Event], whats: &[What]) -> bool {
 }
 
 // Whether these are the events that the executable definition keeps of a log.
-fn are_retired(alloc: Global, log: &[Event], kept: &[Event]) -> Result<bool, OutOfMemory> {
-    let told = definitions::retire(alloc, log)?;
-    Ok(told.as_slice() == kept)
+fn are_retired(alloc: Global, log: &[Event], kept: &[Event]) -> bool {
+    match definitions::retire(alloc, log) {
+        Ok(told) => told.as_slice() == kept,
+        Err(OutOfMemory) => false,
+    }
 }
 
 // Whether these are the events of the journal.
@@ -311,8 +324,8 @@ fn is_journal(control: &Control<NumberedWork, CodeEnding>, events: &[Event]) -> 
     if control.len() as usize != events.len() {
         return false;
     }
-    for (at, event) in events.iter().enumerate() {
-        if control.event(at as u32) != Some(*event) {
+    for at in 0..events.len() {
+        if control.event(at as u32) != Some(events[at]) {
             return false;
         }
     }

@@ -2,7 +2,7 @@
 //! history that is retired.
 
 use crate::caller::{Caller, Said, Step};
-use crate::sample::{Wrong, verdict};
+use crate::sample::verdict;
 use mx_types::{Code, GREATEST_TICKET, HandleId, Look, OutOfMemory, State, Ticket, What};
 use std::alloc::Global;
 use std::test::Fail;
@@ -350,61 +350,52 @@ static ROWS: [Row; 18] = [
 ];
 
 // The first call that answers otherwise, after so many.
-fn plays_part(
-    alloc: Global,
-    caller: &mut Caller,
-    part: Part,
-    behind: usize,
-) -> Result<Option<usize>, OutOfMemory> {
-    for (at, (step, said)) in part.iter().enumerate() {
-        if caller.makes(alloc, *step)? != *said {
-            return Ok(Some(behind.wrapping_add(at)));
+fn plays_part(alloc: Global, caller: &mut Caller, part: Part, behind: usize) -> Option<usize> {
+    for at in 0..part.len() {
+        let (step, said) = part[at];
+        if caller.makes(alloc, step) != said {
+            return Some(behind.wrapping_add(at));
         }
     }
-    Ok(None)
+    None
 }
 
 // The first call of these parts that answers otherwise.
-fn plays_parts(
-    alloc: Global,
-    caller: &mut Caller,
-    parts: &[Part],
-) -> Result<Option<usize>, OutOfMemory> {
+fn plays_parts(alloc: Global, caller: &mut Caller, parts: &[Part]) -> Option<usize> {
     let mut behind = 0usize;
     for part in parts {
-        if let Some(at) = plays_part(alloc, caller, *part, behind)? {
-            return Ok(Some(at));
+        let wrong = plays_part(alloc, caller, *part, behind);
+        if wrong.is_some() {
+            return wrong;
         }
         behind = behind.wrapping_add(part.len());
     }
-    Ok(None)
+    None
 }
 
 // The same of a row.
-fn plays(alloc: Global, row: &Row) -> Result<Option<usize>, OutOfMemory> {
+fn plays(alloc: Global, row: &Row) -> Option<usize> {
     // One of two, which the prover knows for numbers of events.
     let history = if row.history == 8 { 8 } else { 64 };
-    let mut caller = Caller::new(alloc, history, row.first, None)?;
-    let wrong = plays_parts(alloc, &mut caller, row.parts);
-    drop(caller);
-    wrong
+    match Caller::new(alloc, history, row.first, None) {
+        Ok(mut caller) => {
+            let wrong = plays_parts(alloc, &mut caller, row.parts);
+            drop(caller);
+            wrong
+        }
+        Err(OutOfMemory) => Some(0),
+    }
 }
 
-fn first_wrong(alloc: Global) -> Result<Option<Wrong>, OutOfMemory> {
+fn play_each(alloc: Global) -> Result<(), Fail> {
     for row in &ROWS {
-        if let Some(step) = plays(alloc, row)? {
-            return Ok(Some(Wrong {
-                row: row.name,
-                step,
-            }));
-        }
+        verdict(row.name, plays(alloc, row))?;
     }
-    Ok(None)
+    Ok(())
 }
 
 /// Each call of each row answers what it is to answer.
 #[test]
 fn calls_answer_as_their_rows_say(rt: HostRuntime) -> Result<(), Fail> {
-    let wrong = first_wrong(rt.alloc())?;
-    verdict(wrong)
+    play_each(rt.alloc())
 }

@@ -98,17 +98,10 @@ impl Log for RefusesOnce {
     }
 }
 
-/// The row that fails, and its step.
-#[derive(Clone, Copy)]
-pub struct Wrong {
-    pub row: &'static str,
-    pub step: usize,
-}
-
-/// The end of a test: it fails with the row and the step.
-pub fn verdict(wrong: Option<Wrong>) -> Result<(), Fail> {
+/// The end of a row: it fails with the row and the step that is wrong.
+pub fn verdict(row: &'static str, wrong: Option<usize>) -> Result<(), Fail> {
     match wrong {
-        Some(Wrong { row, step }) => Err(Fail::new(format_args!("{row}: step {step}"))),
+        Some(step) => Err(Fail::new(format_args!("{row}: step {step}"))),
         None => Ok(()),
     }
 }
