@@ -7,7 +7,7 @@ use crate::row::{Bytes, Expected, Row, bytes_of};
 use mx_body::{Decoder, Part, Stand, Verdict, decode_whole};
 use mx_responses_tests_base::bytes::CHUNKED;
 use mx_types::{Code, Method};
-use std::alloc::{AllocError, Global};
+use std::alloc::Global;
 
 /// What can be read of a decoder, and the state of its bytes.
 #[derive(Clone, Copy, PartialEq, Eq)]
@@ -71,13 +71,12 @@ fn feed_pieces(decoder: &mut Decoder, bytes: &[u8], len: usize) -> Option<Stand>
 /// Whether the parts are the bytes at 50, 56, 62 and so on.
 fn are_single_bytes(parts: &[Part]) -> bool {
     let mut start: u32 = 50;
+    let mut are_single = true;
     for part in parts {
-        if part.start != start || part.end != start.saturating_add(1) {
-            return false;
-        }
+        are_single = are_single & (part.start == start) & (part.end == start.saturating_add(1));
         start = start.saturating_add(6);
     }
-    true
+    are_single
 }
 
 /// Whether these are the parts of 100,000 chunks of one byte.
@@ -104,7 +103,7 @@ fn takes_many_chunks(decoder: &mut Decoder, bytes: &[u8], len: usize) -> bool {
     } else {
         feed_pieces(decoder, bytes, len) == Some(Stand::Complete)
     };
-    last && has_many_chunks(decoder)
+    last & has_many_chunks(decoder)
 }
 
 /// Whether a new decoder does so, and is taken apart into these bytes and their parts.
@@ -132,11 +131,11 @@ pub(crate) fn agrees(
                 keep,
             },
         ) => {
-            decoder.stand() == Stand::Complete
-                && decoder.status() == status
-                && decoder.len() == len as usize
-                && decoder.parts() == parts.as_slice()
-                && decoder.keep() == keep
+            (decoder.stand() == Stand::Complete)
+                & (decoder.status() == status)
+                & (decoder.len() == len as usize)
+                & (decoder.parts() == parts.as_slice())
+                & (decoder.keep() == keep)
         }
         Ok(Verdict::More) => decoder.stand() == Stand::More,
         Ok(Verdict::Fault(code)) => decoder.stand() == Stand::Fault(code),
@@ -191,14 +190,13 @@ fn agrees_in_pieces(alloc: Global, method: Method, bytes: &[u8], len: usize) -> 
 
 /// Whether they agree on the bytes as the answer to two methods, in pieces of each length.
 pub(crate) fn agrees_in_all_pieces(alloc: Global, bytes: &[u8]) -> bool {
+    let mut agrees = true;
     for method in [Method::Get, Method::Head] {
         for len in [1, 2, 7, 600] {
-            if !agrees_in_pieces(alloc, method, bytes, len) {
-                return false;
-            }
+            agrees = agrees_in_pieces(alloc, method, bytes, len) & agrees;
         }
     }
-    true
+    agrees
 }
 
 /// Whether a response of that status and that length is whole, in pieces of that length.
@@ -223,12 +221,11 @@ pub(crate) fn completes(
     status: u16,
     len: usize,
 ) -> bool {
+    let mut completes = true;
     for piece in pieces {
-        if !completes_in(alloc, bytes, *piece, status, len) {
-            return false;
-        }
+        completes = completes_in(alloc, bytes, *piece, status, len) & completes;
     }
-    true
+    completes
 }
 
 /// Whether a decoder that is fed all but the last byte, and then that one, refuses that one so.
@@ -350,20 +347,18 @@ fn feed_again(decoder: &mut Decoder, piece: &[u8], count: u32) -> Option<Stand> 
 }
 
 /// Feeds a piece as often as it says: whether it is answered so.
-fn feed_as(alloc: Global, decoder: &mut Decoder, feed: &Feed) -> Result<bool, AllocError> {
-    let piece = bytes_of(alloc, &feed.0)?;
-    let last = feed_again(decoder, &piece, feed.1);
-    drop(piece);
-    Ok(last == Some(feed.2))
+fn feed_as(alloc: Global, decoder: &mut Decoder, feed: &Feed) -> bool {
+    let (piece, is_all) = bytes_of(alloc, &feed.0);
+    is_all & (feed_again(decoder, &piece, feed.1) == Some(feed.2))
 }
 
 /// Feeds these pieces: whether each is answered so.
-fn feed_script(alloc: Global, decoder: &mut Decoder, feeds: &[Feed]) -> Result<bool, AllocError> {
+fn feed_script(alloc: Global, decoder: &mut Decoder, feeds: &[Feed]) -> bool {
     let mut is_right = true;
     for feed in feeds {
-        is_right = feed_as(alloc, decoder, feed)? && is_right;
+        is_right = feed_as(alloc, decoder, feed) & is_right;
     }
-    Ok(is_right)
+    is_right
 }
 
 /// How many bytes a decoder has, and room for how many. It is dropped.
@@ -383,21 +378,21 @@ fn is_full(room: (usize, usize), len: Option<usize>) -> bool {
 }
 
 /// Whether a script goes as it should.
-fn goes(alloc: Global, script: &Script) -> Result<bool, AllocError> {
+fn goes(alloc: Global, script: &Script) -> bool {
     let mut decoder = decoder(alloc, Method::Get);
     let is_right = feed_script(alloc, &mut decoder, script.1);
     let len = decoder.len();
     let room = room_of(decoder);
     let is_long = script.2.is_none() || script.2 == Some(len);
-    Ok(is_right? && is_long && is_full(room, script.3))
+    is_right & is_long & is_full(room, script.3)
 }
 
-/// The name of the first script that doesn't.
-pub(crate) fn wrong_script(alloc: Global) -> Result<Option<&'static str>, AllocError> {
+/// The name of the first script that doesn't, or whose pieces find no memory.
+pub(crate) fn wrong_script(alloc: Global) -> Option<&'static str> {
     for script in &SCRIPTS {
-        if !goes(alloc, script)? {
-            return Ok(Some(script.0));
+        if !goes(alloc, script) {
+            return Some(script.0);
         }
     }
-    Ok(None)
+    None
 }

@@ -11,7 +11,7 @@ use mx_body::chunked::scan::ChunkedScan;
 use mx_head::Framing;
 use mx_reason::{Cut, Fault};
 use mx_types::{Code, Method};
-use std::alloc::{AllocError, Global};
+use std::alloc::Global;
 
 /// The bytes of a row.
 #[derive(Clone, Copy)]
@@ -78,56 +78,59 @@ pub(crate) enum Expected {
 /// A row's name, its bytes, and what is seen of them.
 pub(crate) type Row = (&'static str, Bytes, Expected);
 
-/// Adds the front, the unit so often, and the end.
-fn add_often(
-    bytes: &mut Vec<u8>,
-    front: &[u8],
-    unit: &[u8],
-    count: usize,
-    end: &[u8],
-) -> Result<(), AllocError> {
-    bytes.extend_from_slice(front)?;
+/// Adds bytes; false where memory is refused.
+fn add(bytes: &mut Vec<u8>, more: &[u8]) -> bool {
+    bytes.extend_from_slice(more).is_ok()
+}
+
+/// Adds the unit so often.
+fn add_units(bytes: &mut Vec<u8>, unit: &[u8], count: usize) -> bool {
+    let mut is_added = true;
     for _ in 0..count {
-        bytes.extend_from_slice(unit)?;
+        is_added = add(bytes, unit) & is_added;
     }
-    bytes.extend_from_slice(end)
+    is_added
+}
+
+/// Adds the front, the unit so often, and the end.
+fn add_often(bytes: &mut Vec<u8>, front: &[u8], unit: &[u8], count: usize, end: &[u8]) -> bool {
+    add(bytes, front) & add_units(bytes, unit, count) & add(bytes, end)
 }
 
 /// 4,096 times `x`.
 const BLOCK: [u8; 4096] = [b'x'; 4096];
 
 /// Adds the front, and then as many bytes that there are `len` in all.
-fn add_filled(bytes: &mut Vec<u8>, front: &[u8], len: usize) -> Result<(), AllocError> {
-    bytes.reserve(len)?;
-    bytes.extend_from_slice(front)?;
+fn add_filled(bytes: &mut Vec<u8>, front: &[u8], len: usize) -> bool {
+    let mut is_added = bytes.reserve(len).is_ok() & add(bytes, front);
     let block = BLOCK;
     for _ in 0..16_400 {
         let left = len.saturating_sub(bytes.len());
-        bytes.extend_from_slice(&block[..left.min(4096)])?;
+        is_added = add(bytes, &block[..left.min(4096)]) & is_added;
     }
-    Ok(())
+    is_added
 }
 
 /// Adds the front, and so many chunks of 65,536 bytes.
-fn add_chunks(bytes: &mut Vec<u8>, front: &[u8], count: usize) -> Result<(), AllocError> {
-    bytes.extend_from_slice(front)?;
+fn add_chunks(bytes: &mut Vec<u8>, front: &[u8], count: usize) -> bool {
+    let mut is_added = add(bytes, front);
     for _ in 0..count {
-        add_often(bytes, b"10000\r\n", b"0123456789abcdef", 4096, b"\r\n")?;
+        is_added = add_often(bytes, b"10000\r\n", b"0123456789abcdef", 4096, b"\r\n") & is_added;
     }
-    Ok(())
+    is_added
 }
 
 /// Adds a status line, so many short field lines, and one that is as long as the head of that length needs.
-fn add_long_field(bytes: &mut Vec<u8>, count: usize, len: usize) -> Result<(), AllocError> {
-    add_often(bytes, b"HTTP/1.1 200 OK\r\n", b"A: b\r\n", count, b"B: ")?;
+fn add_long_field(bytes: &mut Vec<u8>, count: usize, len: usize) -> bool {
+    let is_begun = add_often(bytes, b"HTTP/1.1 200 OK\r\n", b"A: b\r\n", count, b"B: ");
     let letters = len.saturating_sub(bytes.len().saturating_add(4));
-    add_often(bytes, b"", b"c", letters, b"\r\n\r\n")
+    add_often(bytes, b"", b"c", letters, b"\r\n\r\n") & is_begun
 }
 
-/// Adds all bytes of a row.
-fn add_bytes(all: &mut Vec<u8>, bytes: &Bytes) -> Result<(), AllocError> {
+/// Adds all bytes of a row; false where memory is refused.
+fn add_bytes(all: &mut Vec<u8>, bytes: &Bytes) -> bool {
     match *bytes {
-        Bytes::Of(bytes) => all.extend_from_slice(bytes),
+        Bytes::Of(bytes) => add(all, bytes),
         Bytes::Often(front, unit, count, end) => add_often(all, front, unit, count, end),
         Bytes::Filled(front, len) => add_filled(all, front, len),
         Bytes::Chunks(front, count) => add_chunks(all, front, count),
@@ -135,11 +138,11 @@ fn add_bytes(all: &mut Vec<u8>, bytes: &Bytes) -> Result<(), AllocError> {
     }
 }
 
-/// All bytes of a row.
-pub(crate) fn bytes_of(alloc: Global, bytes: &Bytes) -> Result<Vec<u8>, AllocError> {
+/// Bytes of a row, and whether they are all there: they aren't where memory is refused.
+pub(crate) fn bytes_of(alloc: Global, bytes: &Bytes) -> (Vec<u8>, bool) {
     let mut all = Vec::new(alloc);
-    add_bytes(&mut all, bytes)?;
-    Ok(all)
+    let are_all = add_bytes(&mut all, bytes);
+    (all, are_all)
 }
 
 /// Whether a row has as many bytes as it says.
@@ -180,19 +183,17 @@ fn is_seen(alloc: Global, seen: &Expected, bytes: &[u8]) -> bool {
 }
 
 /// Whether a row's bytes are as long as it says, and what is seen of them is so.
-fn is_right(alloc: Global, row: &Row) -> Result<bool, AllocError> {
-    let bytes = bytes_of(alloc, &row.1)?;
-    let is_right = is_as_long(&row.1, bytes.len()) && is_seen(alloc, &row.2, &bytes);
-    drop(bytes);
-    Ok(is_right)
+fn is_right(alloc: Global, row: &Row) -> bool {
+    let (bytes, are_all) = bytes_of(alloc, &row.1);
+    are_all & is_as_long(&row.1, bytes.len()) & is_seen(alloc, &row.2, &bytes)
 }
 
-/// The name of the first of these rows of which something else is seen.
-pub(crate) fn first_wrong(alloc: Global, rows: &[Row]) -> Result<Option<&'static str>, AllocError> {
+/// The name of the first of these rows of which something else is seen, or whose bytes find no memory.
+pub(crate) fn first_wrong(alloc: Global, rows: &[Row]) -> Option<&'static str> {
     for row in rows {
-        if !is_right(alloc, row)? {
-            return Ok(Some(row.0));
+        if !is_right(alloc, row) {
+            return Some(row.0);
         }
     }
-    Ok(None)
+    None
 }

@@ -37,11 +37,11 @@ fn passes(alloc: Global, trial: Trial, row: &Response, bytes: &[u8]) -> bool {
 }
 
 /// Whether a response passes it with all of its bytes.
-fn passes_with(alloc: Global, trial: Trial, row: &Response) -> Result<bool, AllocError> {
-    let bytes = row.bytes(alloc)?;
-    let passes = passes(alloc, trial, row, &bytes);
-    drop(bytes);
-    Ok(passes)
+fn passes_with(alloc: Global, trial: Trial, row: &Response) -> bool {
+    match row.bytes(alloc) {
+        Ok(bytes) => passes(alloc, trial, row, &bytes),
+        Err(AllocError) => false,
+    }
 }
 
 /// Trials by the row of a response, and their names.
@@ -64,45 +64,50 @@ static COMPARED: [(Trial, &str); 4] = [
     (Trial::BehindAnInterimHead, "behind an interim head"),
 ];
 
-/// The name of the first row that doesn't pass.
-fn first_wrong(
-    alloc: Global,
-    trial: Trial,
-    rows: &[Response],
-) -> Result<Option<&'static str>, AllocError> {
+/// The name of the first row that doesn't pass, or whose bytes find no memory.
+fn first_wrong(alloc: Global, trial: Trial, rows: &[Response]) -> Option<&'static str> {
     for row in rows {
-        if !passes_with(alloc, trial, row)? {
-            return Ok(Some(row.name));
+        if !passes_with(alloc, trial, row) {
+            return Some(row.name);
         }
     }
-    Ok(None)
+    None
 }
 
-/// The first trial with the name of the first row that doesn't pass it.
-fn wrong_trial(
-    alloc: Global,
-    trials: &[(Trial, &'static str)],
-) -> Result<Option<(&'static str, &'static str)>, AllocError> {
-    for trial in trials {
-        for rows in responses() {
-            if let Some(name) = first_wrong(alloc, trial.0, rows)? {
-                return Ok(Some((trial.1, name)));
-            }
+/// The name of the first response of all that doesn't.
+fn first_wrong_of_all(alloc: Global, trial: Trial) -> Option<&'static str> {
+    for rows in responses() {
+        let wrong = first_wrong(alloc, trial, rows);
+        if wrong.is_some() {
+            return wrong;
         }
     }
-    Ok(None)
+    None
+}
+
+/// Fails with the trial, and with the name of the first response that doesn't pass it.
+fn passed(alloc: Global, trial: &(Trial, &'static str)) -> Result<(), Fail> {
+    let (trial, what) = *trial;
+    match first_wrong_of_all(alloc, trial) {
+        Some(name) => Err(Fail::new(format_args!("{name}: {what}"))),
+        None => Ok(()),
+    }
+}
+
+/// The same of the first of these trials that fails.
+fn passed_each(alloc: Global, trials: &[(Trial, &'static str)]) -> Result<(), Fail> {
+    for trial in trials {
+        passed(alloc, trial)?;
+    }
+    Ok(())
 }
 
 #[test]
 fn responses_as_told(rt: HostRuntime) -> Result<(), Fail> {
-    let wrong = wrong_trial(rt.alloc(), &TOLD)?;
-    assert_eq!(rt; wrong, None);
-    Ok(())
+    passed_each(rt.alloc(), &TOLD)
 }
 
 #[test]
 fn responses_by_both_programs(rt: HostRuntime) -> Result<(), Fail> {
-    let wrong = wrong_trial(rt.alloc(), &COMPARED)?;
-    assert_eq!(rt; wrong, None);
-    Ok(())
+    passed_each(rt.alloc(), &COMPARED)
 }
