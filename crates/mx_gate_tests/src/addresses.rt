@@ -151,21 +151,21 @@ fn is_right(alloc: Global, row: &Row, there: &Endpoint) -> bool {
 }
 
 /// Whether a host has what its row says.
-fn is_so(alloc: Global, row: &Row) -> Result<bool, AllocError> {
-    let there = endpoint(alloc, row.host, row.port)?;
-    let is_so = is_right(alloc, row, &there);
-    drop(there);
-    Ok(is_so)
+fn is_so(alloc: Global, row: &Row) -> bool {
+    match endpoint(alloc, row.host, row.port) {
+        Ok(there) => is_right(alloc, row, &there),
+        Err(AllocError) => false,
+    }
 }
 
 /// The first row whose host has something else.
-fn wrong_row(alloc: Global) -> Result<Option<&'static str>, AllocError> {
+fn wrong_row(alloc: Global) -> Option<&'static str> {
     for row in &ROWS {
-        if !is_so(alloc, row)? {
-            return Ok(Some(row.name));
+        if !is_so(alloc, row) {
+            return Some(row.name);
         }
     }
-    Ok(None)
+    None
 }
 
 /// A host, and the same without its brackets.
@@ -257,14 +257,27 @@ fn wrong_limit() -> Option<&'static str> {
     None
 }
 
+/// The first row of a part of the tables that isn't so.
+fn wrong_of(alloc: Global, number: u32) -> Option<&'static str> {
+    match number {
+        0 => wrong_row(alloc),
+        1 => wrong_host(),
+        2 => wrong_code(),
+        _ => wrong_limit(),
+    }
+}
+
+/// Fails with the first of all.
+fn are_all_so(alloc: Global) -> Result<(), Fail> {
+    for number in 0..4 {
+        if let Some(name) = wrong_of(alloc, number) {
+            return Err(name.into());
+        }
+    }
+    Ok(())
+}
+
 #[test]
 fn addresses_and_codes(rt: HostRuntime) -> Result<(), Fail> {
-    let wrong = [
-        wrong_row(rt.alloc())?,
-        wrong_host(),
-        wrong_code(),
-        wrong_limit(),
-    ];
-    assert_eq!(rt; wrong, [None; 4]);
-    Ok(())
+    are_all_so(rt.alloc())
 }

@@ -5,9 +5,8 @@ use crate::outside::{Outside, endpoint, v4};
 use mx_request::Endpoint;
 use mx_types::Code;
 use std::alloc::AllocGlobal;
-use std::net::{Net, TcpListener, TcpStream};
+use std::net::Net;
 use std::rt::Clock;
-use std::sync::Wait;
 use std::test::Fail;
 use std::thread::Threads;
 
@@ -126,10 +125,12 @@ fn work_of(doing: Doing, there: &Endpoint) -> Work<'_> {
 }
 
 /// What is seen at a new gate over this network.
-fn at<
-    R: Clock + Wait + Threads + AllocGlobal + Copy + Send + Drop + 'static,
-    N: Net + Clock + AllocGlobal,
->(rt: &R, net: &N, port: u16, row: &Row) -> Result<Seen, Fail> {
+fn at<N: Net + Clock + AllocGlobal>(
+    rt: &HostRuntime,
+    net: &N,
+    port: u16,
+    row: &Row,
+) -> Result<Seen, Fail> {
     let there = endpoint(rt.alloc(), row.host, row.port.unwrap_or(port))?;
     let seen = at_gate(rt, net, work_of(row.doing, &there));
     drop(there);
@@ -137,17 +138,7 @@ fn at<
 }
 
 /// What is seen where the listener is at this port.
-fn at_port<
-    R: Net<Listener = TcpListener, Stream = TcpStream>
-        + Clock
-        + Wait
-        + Threads
-        + AllocGlobal
-        + Copy
-        + Send
-        + Drop
-        + 'static,
->(rt: &R, port: u16, row: &Row) -> Result<Seen, Fail> {
+fn at_port(rt: &HostRuntime, port: u16, row: &Row) -> Result<Seen, Fail> {
     if !row.by_outside {
         return at(rt, rt, port, row);
     }
@@ -163,17 +154,7 @@ fn at_port<
 }
 
 /// The same where a listener accepts nothing.
-fn beside_listener<
-    R: Net<Listener = TcpListener, Stream = TcpStream>
-        + Clock
-        + Wait
-        + Threads
-        + AllocGlobal
-        + Copy
-        + Send
-        + Drop
-        + 'static,
->(rt: &R, row: &Row) -> Result<Seen, Fail> {
+fn beside_listener(rt: &HostRuntime, row: &Row) -> Result<Seen, Fail> {
     let (listener, port) = listening(rt, "127.0.0.1:0")?;
     let seen = at_port(rt, port, row);
     drop(listener);
@@ -181,53 +162,27 @@ fn beside_listener<
 }
 
 /// The same where nobody listens any more.
-fn beside_nobody<
-    R: Net<Listener = TcpListener, Stream = TcpStream>
-        + Clock
-        + Wait
-        + Threads
-        + AllocGlobal
-        + Copy
-        + Send
-        + Drop
-        + 'static,
->(rt: &R, row: &Row) -> Result<Seen, Fail> {
+fn beside_nobody(rt: &HostRuntime, row: &Row) -> Result<Seen, Fail> {
     let (listener, port) = listening(rt, "127.0.0.1:0")?;
     drop(listener);
     at_port(rt, port, row)
 }
 
 /// The same, and whether a server has served.
-fn beside_server<
-    R: Net<Listener = TcpListener, Stream = TcpStream>
-        + Clock
-        + Wait
-        + Threads
-        + AllocGlobal
-        + Copy
-        + Send
-        + Drop
-        + 'static,
->(rt: &R, row: &Row) -> Result<(Seen, bool), Fail> {
-    let (port, server) = one_server(rt, "127.0.0.1:0")?;
+fn beside_server<R: Threads>(
+    threads: &R,
+    rt: &HostRuntime,
+    row: &Row,
+) -> Result<(Seen, bool), Fail> {
+    let (port, server) = one_server(threads, rt, "127.0.0.1:0")?;
     let seen = at_port(rt, port, row);
-    joined(rt, seen, server)
+    joined(threads, seen, server)
 }
 
 /// The same, and whether the listener has served what it is to serve.
-fn beside<
-    R: Net<Listener = TcpListener, Stream = TcpStream>
-        + Clock
-        + Wait
-        + Threads
-        + AllocGlobal
-        + Copy
-        + Send
-        + Drop
-        + 'static,
->(rt: &R, row: &Row) -> Result<(Seen, bool), Fail> {
+fn beside<R: Threads>(threads: &R, rt: &HostRuntime, row: &Row) -> Result<(Seen, bool), Fail> {
     match row.there {
-        There::Server => beside_server(rt, row),
+        There::Server => beside_server(threads, rt, row),
         There::Listener => Ok((beside_listener(rt, row)?, true)),
         There::Nobody => Ok((beside_nobody(rt, row)?, true)),
     }
@@ -245,7 +200,7 @@ fn has_come(seen: Seen, comes: Comes) -> bool {
 #[test]
 fn connections(rt: HostRuntime) -> Result<(), Fail> {
     for row in &ROWS {
-        let (seen, is_served) = beside(&rt, row)?;
+        let (seen, is_served) = beside(&rt, &rt, row)?;
         if !is_served || !has_come(seen, row.comes) {
             return Err(row.name.into());
         }

@@ -4,9 +4,8 @@ use crate::hosts::addresses;
 use crate::outside::{At, set, v4};
 use mx_names::{Addresses, HostAnswer, Lookup};
 use mx_types::Code;
-use std::alloc::{AllocError, AllocGlobal, Global};
+use std::alloc::{AllocError, Global};
 use std::net::{IpAddr, SocketAddr};
-use std::rt::Clock;
 use std::sync::Arc;
 use std::sync::atomic::{AtomicBool, AtomicU64, Ordering};
 use std::thread;
@@ -81,10 +80,7 @@ impl Seen {
 }
 
 /// A lookup of which this is seen.
-pub(crate) fn lookup<R: AllocGlobal + Copy>(
-    rt: &R,
-    seen: &Arc<Seen>,
-) -> Result<Hanging<R>, AllocError> {
+pub(crate) fn lookup(rt: &HostRuntime, seen: &Arc<Seen>) -> Result<Hanging, AllocError> {
     let seen = Arc::try_clone(seen)?;
     let fake = Fake { alloc: rt.alloc() };
     Ok(Hanging {
@@ -96,14 +92,14 @@ pub(crate) fn lookup<R: AllocGlobal + Copy>(
 
 /// A lookup in which hosts that begin with `hang` hang until they are released, or for ten seconds, and `late` takes 50 milliseconds.
 #[derive(Drop)]
-pub(crate) struct Hanging<R> {
-    rt: R,
+pub(crate) struct Hanging {
+    rt: HostRuntime,
     fake: Fake,
     seen: Arc<Seen>,
 }
 
 /// Waits as the lookup of that host does.
-fn hang<R: Clock>(rt: &R, seen: &Seen, host: &str) {
+fn hang(rt: &HostRuntime, seen: &Seen, host: &str) {
     seen.begun.fetch_add(1, Ordering::SeqCst);
     if host == "late" {
         thread::sleep(rt, Duration::from_millis(50));
@@ -119,7 +115,7 @@ fn hang<R: Clock>(rt: &R, seen: &Seen, host: &str) {
     }
 }
 
-impl<R: Clock> Lookup for Hanging<R> {
+impl Lookup for Hanging {
     ghost gives = { λ host outcome. Unit {0} };
 
     fn look_up(&self, host: &str) -> Result<Addresses, Code> {

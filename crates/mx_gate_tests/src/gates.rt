@@ -4,7 +4,7 @@
 use crate::moments::{tells_beside, tells_moments};
 use crate::outside::Outside;
 use crate::peers::{Peer, PeerSignals, meets};
-use crate::turns::{Turns, takes};
+use crate::turns::{Turns, takes, turns_until_rung};
 use mx_gate::{Bell, Gate, SocketGate};
 use mx_link::{Connect, Link, Read, Write};
 use mx_request::Endpoint;
@@ -13,8 +13,8 @@ use std::alloc::{AllocError, AllocGlobal, Global};
 use std::io::{Read as _, Write as _};
 use std::net::{Net, TcpListener, TcpStream};
 use std::rt::Clock;
+use std::sync::Arc;
 use std::sync::atomic::AtomicBool;
-use std::sync::{Arc, Wait};
 use std::test::Fail;
 use std::thread;
 use std::thread::{JoinHandle, Threads};
@@ -95,8 +95,8 @@ fn sends_and_reads<G: Gate>(gate: &mut G, link: &mut G::Link) -> bool {
         && (link.token(), link.failures()) == (1, 0)
 }
 
-fn do_task<R: Clock + Wait, G: Gate>(
-    rt: &R,
+fn do_task<G: Gate>(
+    rt: &HostRuntime,
     gate: &mut G,
     link: &mut G::Link,
     task: Task<'_>,
@@ -110,8 +110,8 @@ fn do_task<R: Clock + Wait, G: Gate>(
 }
 
 /// What is seen at a new link to the endpoint.
-pub(crate) fn at_link<R: Clock + Wait, G: Gate>(
-    rt: &R,
+pub(crate) fn at_link<G: Gate>(
+    rt: &HostRuntime,
     gate: &mut G,
     there: &Endpoint,
     task: Task<'_>,
@@ -123,7 +123,7 @@ pub(crate) fn at_link<R: Clock + Wait, G: Gate>(
 }
 
 /// Each link is dropped before the next.
-fn has_three_tokens<R: Clock + Wait, G: Gate>(rt: &R, gate: &mut G, there: &Endpoint) -> bool {
+fn has_three_tokens<G: Gate>(rt: &HostRuntime, gate: &mut G, there: &Endpoint) -> bool {
     for token in 1..=3 {
         if at_link(rt, gate, there, Task::Token(token)) != RIGHT {
             return false;
@@ -152,24 +152,23 @@ impl<'r, N: Net + Clock + AllocGlobal> Ringed for SocketGate<'r, N> {
     }
 }
 
-fn do_work<
-    R: Clock + Wait + Threads + AllocGlobal + Copy + Send + Drop + 'static,
-    G: Gate + Ringed,
->(rt: &R, gate: &mut G, stop: &AtomicBool, work: Work<'_>) -> Result<Seen, Fail> {
+fn do_work<G: Gate + Ringed>(
+    rt: &HostRuntime,
+    gate: &mut G,
+    stop: &AtomicBool,
+    work: Work<'_>,
+) -> Result<Seen, Fail> {
     let is_right = match work {
         Work::Link(there, task) => return Ok(at_link(rt, gate, there, task)),
-        Work::Tokens(there) => Ok(has_three_tokens(rt, gate, there)),
-        Work::Turns(turns) => takes(rt, gate, stop, turns),
-        Work::Moments(outside) => Ok(tells_moments(outside, gate)),
+        Work::Tokens(there) => has_three_tokens(rt, gate, there),
+        Work::Turns(turns) => takes(rt, gate, stop, turns)?,
+        Work::Moments(outside) => tells_moments(outside, gate),
         Work::Beside(outside) => {
             let start = gate.begun();
-            tells_beside(outside, start, gate)
+            tells_beside(outside, start, gate)?
         }
     };
-    match is_right {
-        Ok(is_right) => Ok(Ok(is_right.then_some(0))),
-        Err(fail) => Err(fail),
-    }
+    Ok(Ok(is_right.then_some(0)))
 }
 
 /// A flag that isn't set.
@@ -186,10 +185,11 @@ pub(crate) fn given<T>(given: Result<T, Code>) -> Result<T, Fail> {
 }
 
 /// What is seen at a new gate over this network.
-pub(crate) fn at_gate<
-    R: Clock + Wait + Threads + AllocGlobal + Copy + Send + Drop + 'static,
-    N: Net + Clock + AllocGlobal,
->(rt: &R, net: &N, work: Work<'_>) -> Result<Seen, Fail> {
+pub(crate) fn at_gate<N: Net + Clock + AllocGlobal>(
+    rt: &HostRuntime,
+    net: &N,
+    work: Work<'_>,
+) -> Result<Seen, Fail> {
     let stop = flag(rt.alloc())?;
     let mut gate = given(SocketGate::new(net, Arc::try_clone(&stop)?))?;
     let seen = do_work(rt, &mut gate, &stop, work);
@@ -198,11 +198,17 @@ pub(crate) fn at_gate<
     seen
 }
 
+/// Whether the gate that a thread rings after a while ends its turn then.
+pub(crate) fn is_rung_at_gate<R: Threads>(threads: &R, rt: &HostRuntime) -> Result<bool, Fail> {
+    let stop = flag(rt.alloc())?;
+    let mut gate = given(SocketGate::new(rt, stop))?;
+    let is_rung = turns_until_rung(threads, rt, &mut gate);
+    drop(gate);
+    is_rung
+}
+
 /// A listener at a port of this address that was free, and that port.
-pub(crate) fn listening<R: Net<Listener = TcpListener, Stream = TcpStream>>(
-    rt: &R,
-    address: &str,
-) -> Result<(TcpListener, u16), Fail> {
+pub(crate) fn listening(rt: &HostRuntime, address: &str) -> Result<(TcpListener, u16), Fail> {
     let listener = TcpListener::bind(rt, address)?;
     let port = listener.local_addr()?.port();
     Ok((listener, port))
@@ -225,23 +231,24 @@ fn serve_one(listener: &TcpListener) -> bool {
 }
 
 /// A thread that serves one connection, and its port: it reads four bytes and sends them back.
-pub(crate) fn one_server<R: Net<Listener = TcpListener, Stream = TcpStream> + Threads>(
-    rt: &R,
+pub(crate) fn one_server<R: Threads>(
+    threads: &R,
+    rt: &HostRuntime,
     address: &str,
 ) -> Result<(u16, JoinHandle<bool>), Fail> {
     let (listener, port) = listening(rt, address)?;
-    let server = thread::spawn(rt, move || serve_one(&listener))?;
+    let server = thread::spawn(threads, move || serve_one(&listener))?;
     Ok((port, server))
 }
 
 /// The result, and the answer of the thread beside it, which is joined only where there is a result.
 pub(crate) fn joined<R: Threads, T: Drop, U: Drop>(
-    rt: &R,
+    threads: &R,
     done: Result<T, Fail>,
     there: JoinHandle<U>,
 ) -> Result<(T, U), Fail> {
     match done {
-        Ok(done) => Ok((done, there.join(rt))),
+        Ok(done) => Ok((done, there.join(threads))),
         Err(fail) => {
             drop(there);
             Err(fail)

@@ -4,12 +4,8 @@ use crate::gates::{RIGHT, Work, at_gate, flag, given};
 use crate::outside::Outside;
 use mx_gate::{Gate, SocketGate};
 use mx_types::Code;
-use std::alloc::AllocGlobal;
-use std::rt::Clock;
-use std::sync::Wait;
 use std::sync::atomic::Ordering;
 use std::test::Fail;
-use std::thread::Threads;
 use std::time::Instant;
 
 /// The moment of a gate, once the clock is set to that.
@@ -78,11 +74,7 @@ fn is_refused(outside: &Outside<'_>) -> Result<bool, Fail> {
     Ok(refused == Some(Code::CouldntConnect))
 }
 
-fn is_so<R: Clock + Wait + Threads + AllocGlobal + Copy + Send + Drop + 'static>(
-    rt: &R,
-    outside: &Outside<'_>,
-    doing: Doing,
-) -> Result<bool, Fail> {
+fn is_so(rt: &HostRuntime, outside: &Outside<'_>, doing: Doing) -> Result<bool, Fail> {
     outside.milliseconds.store(1000, Ordering::SeqCst);
     match doing {
         Doing::Moments => Ok(at_gate(rt, outside, Work::Moments(outside))? == RIGHT),

@@ -9,7 +9,7 @@ use mx_names::{Lookup, Resolver, SystemLookup};
 use mx_request::Endpoint;
 use mx_types::Code;
 use std::alloc::AllocGlobal;
-use std::net::{Net, TcpListener, TcpStream};
+use std::net::{Net, TcpListener};
 use std::rt::Clock;
 use std::sync::atomic::{AtomicBool, Ordering};
 use std::sync::{Arc, Wait};
@@ -64,18 +64,24 @@ fn does<
     R: Clock + AllocGlobal + Threads + Wait + Copy + Send + Drop + 'static,
     L: Lookup + Send + Sync + Drop + 'static,
     G: Gate,
->(rt: &R, resolver: &Resolver<L, NameBell>, gate: &mut G, work: Work<'_>) -> bool {
+>(
+    rt: &R,
+    host: &HostRuntime,
+    resolver: &Resolver<L, NameBell>,
+    gate: &mut G,
+    work: Work<'_>,
+) -> bool {
     match work {
         Work::Send(there) => {
             let is_told = can_open(rt, resolver, gate, there, 10_000);
-            is_told && at_link(rt, gate, there, Task::Send) == RIGHT
+            is_told && at_link(host, gate, there, Task::Send) == RIGHT
         }
         Work::Refused(there) => {
             let is_told = can_open(rt, resolver, gate, there, 10_000);
             let refused = Err(Code::CouldntResolveHost);
             is_told
-                && at_link(rt, gate, there, Task::Send) == refused
-                && at_link(rt, gate, there, Task::Send) == refused
+                && at_link(host, gate, there, Task::Send) == refused
+                && at_link(host, gate, there, Task::Send) == refused
         }
         Work::Beside(hang, good, free) => {
             let first = can_open(rt, resolver, gate, hang, 5);
@@ -91,9 +97,15 @@ fn does<
 fn at_gate<
     R: Net + Clock + AllocGlobal + Threads + Wait + Copy + Send + Drop + 'static,
     L: Lookup + Send + Sync + Drop + 'static,
->(rt: &R, resolver: &Resolver<L, NameBell>, start: Instant, work: Work<'_>) -> Result<bool, Fail> {
+>(
+    rt: &R,
+    host: &HostRuntime,
+    resolver: &Resolver<L, NameBell>,
+    start: Instant,
+    work: Work<'_>,
+) -> Result<bool, Fail> {
     let mut gate = gate(rt, resolver, start)?;
-    let does = does(rt, resolver, &mut gate, work);
+    let does = does(rt, host, resolver, &mut gate, work);
     drop(gate);
     Ok(does)
 }
@@ -102,10 +114,10 @@ fn at_gate<
 fn looks_up<
     R: Net + Clock + AllocGlobal + Threads + Wait + Copy + Send + Drop + 'static,
     L: Lookup + Send + Sync + Drop + 'static,
->(rt: &R, lookup: L, work: Work<'_>) -> Result<bool, Fail> {
-    let start = Instant::now(rt)?;
-    let resolver = Resolver::new(rt.alloc(), lookup, start)?;
-    let does = at_gate(rt, &resolver, start, work);
+>(rt: &R, host: &HostRuntime, lookup: L, work: Work<'_>) -> Result<bool, Fail> {
+    let start = Instant::now(host)?;
+    let resolver = Resolver::new(host.alloc(), lookup, start)?;
+    let does = at_gate(rt, host, &resolver, start, work);
     drop(resolver);
     does
 }
@@ -114,51 +126,33 @@ fn looks_up<
 fn is_sent<
     R: Net + Clock + AllocGlobal + Threads + Wait + Copy + Send + Drop + 'static,
     L: Lookup + Send + Sync + Drop + 'static,
->(rt: &R, lookup: L, host: &str, port: u16) -> Result<bool, Fail> {
-    let there = endpoint(rt.alloc(), host, port)?;
-    looks_up(rt, lookup, Work::Send(&there))
+>(rt: &R, host: &HostRuntime, lookup: L, name: &str, port: u16) -> Result<bool, Fail> {
+    let there = endpoint(host.alloc(), name, port)?;
+    looks_up(rt, host, lookup, Work::Send(&there))
 }
 
 /// Whether a host is served at this address, whose lookup is one of these.
 fn is_served<
-    R: Net<Listener = TcpListener, Stream = TcpStream>
-        + Clock
-        + AllocGlobal
-        + Threads
-        + Wait
-        + Copy
-        + Send
-        + Drop
-        + 'static,
+    R: Net + Clock + AllocGlobal + Threads + Wait + Copy + Send + Drop + 'static,
     L: Lookup + Send + Sync + Drop + 'static,
->(rt: &R, lookup: L, host: &str, address: &str) -> Result<bool, Fail> {
-    let (port, server) = one_server(rt, address)?;
-    let sent = is_sent(rt, lookup, host, port);
+>(rt: &R, host: &HostRuntime, lookup: L, name: &str, address: &str) -> Result<bool, Fail> {
+    let (port, server) = one_server(rt, host, address)?;
+    let sent = is_sent(rt, host, lookup, name, port);
     let (is_sent, is_served) = joined(rt, sent, server)?;
     Ok(is_sent && is_served)
 }
 
 /// The first of these hosts that isn't served at this address.
-fn first_unserved<
-    R: Net<Listener = TcpListener, Stream = TcpStream>
-        + Clock
-        + AllocGlobal
-        + Threads
-        + Wait
-        + Copy
-        + Send
-        + Sync
-        + Drop
-        + 'static,
->(
+fn first_unserved<R: Net + Clock + AllocGlobal + Threads + Wait + Copy + Send + Drop + 'static>(
     rt: &R,
+    host: &HostRuntime,
     seen: &Arc<Seen>,
-    hosts: &[&'static str],
+    names: &[&'static str],
     address: &str,
 ) -> Result<Option<&'static str>, Fail> {
-    for host in hosts {
-        if !is_served(rt, lookup(rt, seen)?, *host, address)? {
-            return Ok(Some(*host));
+    for name in names {
+        if !is_served(rt, host, lookup(host, seen)?, *name, address)? {
+            return Ok(Some(*name));
         }
     }
     Ok(None)
@@ -170,45 +164,41 @@ static IPV6_HOSTS: [&'static str; 2] = ["localhost", "[::1]"];
 
 // rule name-no-second-lookup
 /// Whether a host without addresses is refused, after one lookup.
-fn is_refused<R: Net + Clock + AllocGlobal + Threads + Wait + Copy + Send + Sync + Drop + 'static>(
+fn is_refused<R: Net + Clock + AllocGlobal + Threads + Wait + Copy + Send + Drop + 'static>(
     rt: &R,
+    host: &HostRuntime,
     seen: &Arc<Seen>,
 ) -> Result<bool, Fail> {
-    let none = endpoint(rt.alloc(), "none", 80)?;
-    let refused = looks_up(rt, lookup(rt, seen)?, Work::Refused(&none))?;
+    let none = endpoint(host.alloc(), "none", 80)?;
+    let refused = looks_up(rt, host, lookup(host, seen)?, Work::Refused(&none))?;
     Ok(refused && seen.begun.load(Ordering::SeqCst) == 1)
 }
 
 /// Whether a host that hangs delays no other.
-fn is_beside<R: Net + Clock + AllocGlobal + Threads + Wait + Copy + Send + Sync + Drop + 'static>(
+fn is_beside<R: Net + Clock + AllocGlobal + Threads + Wait + Copy + Send + Drop + 'static>(
     rt: &R,
+    host: &HostRuntime,
     seen: &Arc<Seen>,
 ) -> Result<bool, Fail> {
-    let hang = endpoint(rt.alloc(), "hang", 80)?;
-    let good = endpoint(rt.alloc(), "good", 80)?;
+    let hang = endpoint(host.alloc(), "hang", 80)?;
+    let good = endpoint(host.alloc(), "good", 80)?;
     looks_up(
         rt,
-        lookup(rt, seen)?,
+        host,
+        lookup(host, seen)?,
         Work::Beside(&hang, &good, &seen.free),
     )
 }
 
 /// The first host that isn't reached once it is known. The bell ends the wait for each, so three waits of ten seconds are enough.
-fn first_unreached<
-    R: Net<Listener = TcpListener, Stream = TcpStream>
-        + Clock
-        + AllocGlobal
-        + Threads
-        + Wait
-        + Copy
-        + Send
-        + Sync
-        + Drop
-        + 'static,
->(rt: &R, seen: &Arc<Seen>) -> Result<Option<&'static str>, Fail> {
-    let start = Instant::now(rt)?;
-    let unserved = first_unserved(rt, seen, &HOSTS, "127.0.0.1:0")?;
-    let in_time = start.elapsed(rt)? < Duration::from_secs(9);
+fn first_unreached<R: Net + Clock + AllocGlobal + Threads + Wait + Copy + Send + Drop + 'static>(
+    rt: &R,
+    host: &HostRuntime,
+    seen: &Arc<Seen>,
+) -> Result<Option<&'static str>, Fail> {
+    let start = Instant::now(host)?;
+    let unserved = first_unserved(rt, host, seen, &HOSTS, "127.0.0.1:0")?;
+    let in_time = start.elapsed(host)? < Duration::from_secs(9);
     if unserved.is_none() && !in_time {
         return Ok(Some("in time"));
     }
@@ -220,18 +210,15 @@ fn first_unreached<
 
 /// Whether a host is served that the system looks up.
 fn is_served_by_system<
-    R: Net<Listener = TcpListener, Stream = TcpStream>
-        + Clock
-        + AllocGlobal
-        + Threads
-        + Wait
-        + Copy
-        + Send
-        + Sync
-        + Drop
-        + 'static,
->(rt: &R) -> Result<bool, Fail> {
-    is_served(rt, SystemLookup::new(*rt), "localhost", "127.0.0.1:0")
+    R: Net + Clock + AllocGlobal + Threads + Wait + Copy + Send + Drop + 'static,
+>(rt: &R, host: &HostRuntime) -> Result<bool, Fail> {
+    is_served(
+        rt,
+        host,
+        SystemLookup::new(*host),
+        "localhost",
+        "127.0.0.1:0",
+    )
 }
 
 /// What a row tries.
@@ -258,38 +245,32 @@ static ROWS: [(&'static str, Trial); 5] = [
 ];
 
 /// The host of which a trial fails.
-fn first_wrong<
-    R: Net<Listener = TcpListener, Stream = TcpStream>
-        + Clock
-        + AllocGlobal
-        + Threads
-        + Wait
-        + Copy
-        + Send
-        + Sync
-        + Drop
-        + 'static,
->(rt: &R, seen: &Arc<Seen>, trial: Trial) -> Result<Option<&'static str>, Fail> {
-    let (is_so, host) = match trial {
-        Trial::Refused => (is_refused(rt, seen)?, "none"),
-        Trial::Beside => (is_beside(rt, seen)?, "good"),
-        Trial::Served => (is_served_by_system(rt)?, "localhost"),
-        Trial::Reached => return first_unreached(rt, seen),
+fn first_wrong<R: Net + Clock + AllocGlobal + Threads + Wait + Copy + Send + Drop + 'static>(
+    rt: &R,
+    host: &HostRuntime,
+    seen: &Arc<Seen>,
+    trial: Trial,
+) -> Result<Option<&'static str>, Fail> {
+    let (is_so, name) = match trial {
+        Trial::Refused => (is_refused(rt, host, seen)?, "none"),
+        Trial::Beside => (is_beside(rt, host, seen)?, "good"),
+        Trial::Served => (is_served_by_system(rt, host)?, "localhost"),
+        Trial::Reached => return first_unreached(rt, host, seen),
         Trial::ReachedByIpv6 => {
-            if TcpListener::bind(rt, "[::1]:0").is_err() {
+            if TcpListener::bind(host, "[::1]:0").is_err() {
                 return Ok(None);
             }
-            return first_unserved(rt, seen, &IPV6_HOSTS, "[::1]:0");
+            return first_unserved(rt, host, seen, &IPV6_HOSTS, "[::1]:0");
         }
     };
-    Ok(if is_so { None } else { Some(host) })
+    Ok(if is_so { None } else { Some(name) })
 }
 
 #[test]
 fn gates_that_wait_for_no_name(rt: HostRuntime) -> Result<(), Fail> {
     for row in &ROWS {
         let seen = Seen::new(rt.alloc())?;
-        let wrong = first_wrong(&rt, &seen, row.1);
+        let wrong = first_wrong(&rt, &rt, &seen, row.1);
         drop(seen);
         if let Some(host) = wrong? {
             return Err(format!(in rt.alloc(); "{}: {host}", row.0)?.into());

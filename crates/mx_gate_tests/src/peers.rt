@@ -7,10 +7,9 @@ use mx_gate::Gate;
 use mx_link::{Connect, Link, Read, Write};
 use std::alloc::AllocGlobal;
 use std::io::{Read as _, Write as _};
-use std::net::{Net, TcpListener, TcpStream};
-use std::rt::Clock;
+use std::net::{TcpListener, TcpStream};
+use std::sync::Arc;
 use std::sync::atomic::{AtomicBool, Ordering};
-use std::sync::{Arc, Wait};
 use std::test::Fail;
 use std::thread;
 use std::thread::{JoinHandle, Threads};
@@ -46,7 +45,7 @@ pub(crate) enum Peer {
 }
 
 /// Waits for the other's signal.
-fn wait_for<R: Clock + Wait>(rt: &R, told: &AtomicBool) {
+fn wait_for(rt: &HostRuntime, told: &AtomicBool) {
     for _ in 0..LOOKS {
         if told.load(Ordering::SeqCst) {
             return;
@@ -79,12 +78,7 @@ fn read_all(stream: &mut TcpStream) -> u64 {
 }
 
 /// Does what the peer does over a connection: how many bytes it read, or nothing where it failed.
-fn serve<R: Clock + Wait>(
-    rt: &R,
-    stream: &mut TcpStream,
-    told: &PeerSignals,
-    peer: Peer,
-) -> Option<u64> {
+fn serve(rt: &HostRuntime, stream: &mut TcpStream, told: &PeerSignals, peer: Peer) -> Option<u64> {
     let (first, rest) = sent_by(peer);
     let is_begun = stream.write_all(first).is_ok();
     wait_for(rt, &told.go);
@@ -95,7 +89,7 @@ fn serve<R: Clock + Wait>(
 }
 
 /// Closes the connection, of a peer that closes later a while after the test is told that it has sent.
-fn close<R: Clock>(rt: &R, stream: TcpStream, told: &PeerSignals, peer: Peer) {
+fn close(rt: &HostRuntime, stream: TcpStream, told: &PeerSignals, peer: Peer) {
     if matches!(peer, Peer::SendsLate | Peer::SendsTwice) {
         told.sent.store(true, Ordering::SeqCst);
         thread::sleep(rt, Duration::from_millis(100));
@@ -105,8 +99,8 @@ fn close<R: Clock>(rt: &R, stream: TcpStream, told: &PeerSignals, peer: Peer) {
 }
 
 /// Accepts one connection, and is its peer.
-fn be_peer<R: Clock + Wait>(
-    rt: &R,
+fn be_peer(
+    rt: &HostRuntime,
     listener: &TcpListener,
     told: &PeerSignals,
     peer: Peer,
@@ -138,15 +132,15 @@ fn finds_nothing<L: Link>(link: &mut L) -> bool {
 }
 
 /// Has the peer go on, and waits until it has sent.
-fn go_on<R: Clock + Wait>(rt: &R, told: &PeerSignals) {
+fn go_on(rt: &HostRuntime, told: &PeerSignals) {
     told.go.store(true, Ordering::SeqCst);
     wait_for(rt, &told.sent);
 }
 
 /// Reads the first two bytes, where some come at once. Then it finds nothing to read, before a turn not even bytes that came; after the
 /// turn it reads those and the end.
-fn reads_after_a_turn<R: Clock + Wait, G: Gate>(
-    rt: &R,
+fn reads_after_a_turn<G: Gate>(
+    rt: &HostRuntime,
     gate: &mut G,
     link: &mut G::Link,
     told: &PeerSignals,
@@ -168,8 +162,8 @@ fn reads_after_a_turn<R: Clock + Wait, G: Gate>(
 }
 
 /// Takes one turn when bytes and the end have come, and reads both.
-fn reads_to_the_end<R: Clock + Wait, G: Gate>(
-    rt: &R,
+fn reads_to_the_end<G: Gate>(
+    rt: &HostRuntime,
     gate: &mut G,
     link: &mut G::Link,
     told: &PeerSignals,
@@ -241,8 +235,8 @@ fn writes_all<G: Gate>(
 }
 
 /// What is seen at a link to such a peer, whose writes offer these bytes.
-pub(crate) fn meets<R: Clock + Wait, G: Gate>(
-    rt: &R,
+pub(crate) fn meets<G: Gate>(
+    rt: &HostRuntime,
     gate: &mut G,
     link: &mut G::Link,
     told: &PeerSignals,
@@ -258,29 +252,20 @@ pub(crate) fn meets<R: Clock + Wait, G: Gate>(
 }
 
 /// A thread that is a peer, and its port.
-fn peer_there<
-    R: Net<Listener = TcpListener, Stream = TcpStream>
-        + Clock
-        + Wait
-        + Threads
-        + Copy
-        + Send
-        + Drop
-        + 'static,
->(rt: &R, told: Arc<PeerSignals>, peer: Peer) -> Result<(u16, JoinHandle<Option<u64>>), Fail> {
+fn peer_there<R: Threads>(
+    threads: &R,
+    rt: &HostRuntime,
+    told: Arc<PeerSignals>,
+    peer: Peer,
+) -> Result<(u16, JoinHandle<Option<u64>>), Fail> {
     let (listener, port) = listening(rt, "127.0.0.1:0")?;
     let rt_there = *rt;
-    let there = thread::spawn(rt, move || be_peer(&rt_there, &listener, &told, peer))?;
+    let there = thread::spawn(threads, move || be_peer(&rt_there, &listener, &told, peer))?;
     Ok((port, there))
 }
 
 /// What is seen at a link to the peer at this port.
-fn meet<R: Net + Clock + Wait + Threads + AllocGlobal + Copy + Send + Drop + 'static>(
-    rt: &R,
-    port: u16,
-    told: &PeerSignals,
-    peer: Peer,
-) -> Result<Option<u64>, Fail> {
+fn meet(rt: &HostRuntime, port: u16, told: &PeerSignals, peer: Peer) -> Result<Option<u64>, Fail> {
     let there = endpoint(rt.alloc(), "127.0.0.1", port)?;
     let bytes = vec![in rt.alloc(); b'x'; OFFERED]?;
     let work = Work::Link(&there, Task::Meet(told, peer, bytes.as_slice()));
@@ -291,39 +276,24 @@ fn meet<R: Net + Clock + Wait + Threads + AllocGlobal + Copy + Send + Drop + 'st
 }
 
 /// Whether the link sees what it is to, and its peer read all that was taken, by these signals.
-fn is_met_by<
-    R: Net<Listener = TcpListener, Stream = TcpStream>
-        + Clock
-        + Wait
-        + Threads
-        + AllocGlobal
-        + Copy
-        + Send
-        + Drop
-        + 'static,
->(rt: &R, told: &Arc<PeerSignals>, peer: Peer) -> Result<bool, Fail> {
-    let (port, there) = peer_there(rt, Arc::try_clone(told)?, peer)?;
+fn is_met_by<R: Threads>(
+    threads: &R,
+    rt: &HostRuntime,
+    told: &Arc<PeerSignals>,
+    peer: Peer,
+) -> Result<bool, Fail> {
+    let (port, there) = peer_there(threads, rt, Arc::try_clone(told)?, peer)?;
     let near = meet(rt, port, told, peer);
-    let (near, far) = joined(rt, near, there)?;
+    let (near, far) = joined(threads, near, there)?;
     Ok(near.is_some() && near == far)
 }
 
 /// The same, by new ones.
-fn is_met<
-    R: Net<Listener = TcpListener, Stream = TcpStream>
-        + Clock
-        + Wait
-        + Threads
-        + AllocGlobal
-        + Copy
-        + Send
-        + Drop
-        + 'static,
->(rt: &R, peer: Peer) -> Result<bool, Fail> {
+fn is_met<R: Threads>(threads: &R, rt: &HostRuntime, peer: Peer) -> Result<bool, Fail> {
     let go = AtomicBool::new(false);
     let sent = AtomicBool::new(false);
     let told = Arc::new(rt.alloc(), PeerSignals { go, sent })?;
-    let is_met = is_met_by(rt, &told, peer);
+    let is_met = is_met_by(threads, rt, &told, peer);
     drop(told);
     is_met
 }
@@ -356,7 +326,7 @@ static ROWS: [(&'static str, Peer); 5] = [
 #[test]
 fn peers_that_wait(rt: HostRuntime) -> Result<(), Fail> {
     for row in &ROWS {
-        if !is_met(&rt, row.1)? {
+        if !is_met(&rt, &rt, row.1)? {
             return Err(row.0.into());
         }
     }

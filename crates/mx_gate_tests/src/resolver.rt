@@ -23,9 +23,9 @@ impl Ring for Count {
 }
 
 /// Whether this is what is known of the host, in numbers; None where nothing is.
-fn tells<R: Threads + Clock + Wait + AllocGlobal + Copy + Send + Sync + Drop + 'static>(
+fn tells<R: Threads + Clock + Wait + AllocGlobal + Copy + Send + Drop + 'static>(
     rt: &R,
-    resolver: &Resolver<Hanging<R>, Count>,
+    resolver: &Resolver<Hanging, Count>,
     host: &str,
     expected: &[u64],
 ) -> Option<bool> {
@@ -40,9 +40,9 @@ fn tells<R: Threads + Clock + Wait + AllocGlobal + Copy + Send + Sync + Drop + '
 }
 
 /// The same once something is known; false where nothing is after ten seconds.
-fn is_told<R: Threads + Clock + Wait + AllocGlobal + Copy + Send + Sync + Drop + 'static>(
+fn is_told<R: Threads + Clock + Wait + AllocGlobal + Copy + Send + Drop + 'static>(
     rt: &R,
-    resolver: &Resolver<Hanging<R>, Count>,
+    resolver: &Resolver<Hanging, Count>,
     host: &str,
     expected: &[u64],
 ) -> bool {
@@ -56,9 +56,9 @@ fn is_told<R: Threads + Clock + Wait + AllocGlobal + Copy + Send + Sync + Drop +
 }
 
 /// The first of these hosts of which something else is known.
-fn first_untold<R: Threads + Clock + Wait + AllocGlobal + Copy + Send + Sync + Drop + 'static>(
+fn first_untold<R: Threads + Clock + Wait + AllocGlobal + Copy + Send + Drop + 'static>(
     rt: &R,
-    resolver: &Resolver<Hanging<R>, Count>,
+    resolver: &Resolver<Hanging, Count>,
 ) -> Option<&'static str> {
     for row in &TOLD {
         let (host, expected) = *row;
@@ -77,9 +77,9 @@ static TOLD: [(&'static str, &'static [u64]); 3] = [
 ];
 
 /// Asks of a host, whatever is known of it.
-fn ask<R: Threads + Clock + Wait + AllocGlobal + Copy + Send + Sync + Drop + 'static>(
+fn ask<R: Threads + Clock + Wait + AllocGlobal + Copy + Send + Drop + 'static>(
     rt: &R,
-    resolver: &Resolver<Hanging<R>, Count>,
+    resolver: &Resolver<Hanging, Count>,
     host: &str,
 ) {
     let answer = resolver.ask(rt, host, 0, 0, &mut History::new());
@@ -87,9 +87,9 @@ fn ask<R: Threads + Clock + Wait + AllocGlobal + Copy + Send + Sync + Drop + 'st
 }
 
 /// Asks once of so many hosts that hang.
-fn ask_of_hanging<R: Threads + Clock + Wait + AllocGlobal + Copy + Send + Sync + Drop + 'static>(
+fn ask_of_hanging<R: Threads + Clock + Wait + AllocGlobal + Copy + Send + Drop + 'static>(
     rt: &R,
-    resolver: &Resolver<Hanging<R>, Count>,
+    resolver: &Resolver<Hanging, Count>,
     count: u64,
 ) -> Result<(), AllocError> {
     for number in 0..count {
@@ -101,7 +101,7 @@ fn ask_of_hanging<R: Threads + Clock + Wait + AllocGlobal + Copy + Send + Sync +
 }
 
 /// How many lookups began, once so many have, or after ten seconds.
-fn begun<R: Clock + Wait>(rt: &R, seen: &Seen, count: u64) -> u64 {
+fn begun(rt: &HostRuntime, seen: &Seen, count: u64) -> u64 {
     for _ in 0..10_000u32 {
         if seen.begun.load(Ordering::SeqCst) >= count {
             break;
@@ -112,10 +112,11 @@ fn begun<R: Clock + Wait>(rt: &R, seen: &Seen, count: u64) -> u64 {
 }
 
 /// The first of three hosts with another answer while 63 lookups hang.
-fn first_wrong<R: Threads + Clock + Wait + AllocGlobal + Copy + Send + Sync + Drop + 'static>(
+fn first_wrong<R: Threads + Clock + Wait + AllocGlobal + Copy + Send + Drop + 'static>(
     rt: &R,
+    host: &HostRuntime,
     seen: &Seen,
-    resolver: &Resolver<Hanging<R>, Count>,
+    resolver: &Resolver<Hanging, Count>,
 ) -> Result<Option<&'static str>, AllocError> {
     ask_of_hanging(rt, resolver, 63)?;
     ask_of_hanging(rt, resolver, 63)?;
@@ -123,7 +124,7 @@ fn first_wrong<R: Threads + Clock + Wait + AllocGlobal + Copy + Send + Sync + Dr
     if untold.is_some() {
         return Ok(untold);
     }
-    if begun(rt, seen, 65) != 65 {
+    if begun(host, seen, 65) != 65 {
         return Ok(Some("how many lookups began"));
     }
     if seen.rings.load(Ordering::SeqCst) == 0 {
@@ -133,37 +134,38 @@ fn first_wrong<R: Threads + Clock + Wait + AllocGlobal + Copy + Send + Sync + Dr
 }
 
 /// A bell is added to a resolver.
-fn add_bell<R: Clock + Wait>(
+fn add_bell<R: Wait>(
     rt: &R,
     seen: &Arc<Seen>,
-    resolver: &Resolver<Hanging<R>, Count>,
+    resolver: &Resolver<Hanging, Count>,
 ) -> Result<(), OutOfMemory> {
     let seen = Arc::try_clone(seen)?;
     resolver.add_bell(rt, Count(seen))
 }
 
 /// The same, of a resolver without a bell. Those that hang are released then.
-fn first_wrong_with_bell<
-    R: Threads + Clock + Wait + AllocGlobal + Copy + Send + Sync + Drop + 'static,
->(
+fn first_wrong_with_bell<R: Threads + Clock + Wait + AllocGlobal + Copy + Send + Drop + 'static>(
     rt: &R,
+    host: &HostRuntime,
     seen: &Arc<Seen>,
-    resolver: &Resolver<Hanging<R>, Count>,
+    resolver: &Resolver<Hanging, Count>,
 ) -> Result<Option<&'static str>, OutOfMemory> {
     add_bell(rt, seen, resolver)?;
-    let wrong = first_wrong(rt, seen, resolver);
+    let wrong = first_wrong(rt, host, seen, resolver);
     seen.free.store(true, Ordering::SeqCst);
     Ok(wrong?)
 }
 
 /// The same, of a new resolver.
-fn first_wrong_of_new<
-    R: Threads + Clock + Wait + AllocGlobal + Copy + Send + Sync + Drop + 'static,
->(rt: &R, seen: &Arc<Seen>) -> Result<Option<&'static str>, Fail> {
-    let start = Instant::now(rt)?;
-    let lookup = lookup(rt, seen)?;
-    let resolver = Resolver::new(rt.alloc(), lookup, start)?;
-    let wrong = first_wrong_with_bell(rt, seen, &resolver);
+fn first_wrong_of_new<R: Threads + Clock + Wait + AllocGlobal + Copy + Send + Drop + 'static>(
+    rt: &R,
+    host: &HostRuntime,
+    seen: &Arc<Seen>,
+) -> Result<Option<&'static str>, Fail> {
+    let start = Instant::now(host)?;
+    let lookup = lookup(host, seen)?;
+    let resolver = Resolver::new(host.alloc(), lookup, start)?;
+    let wrong = first_wrong_with_bell(rt, host, seen, &resolver);
     drop(resolver);
     Ok(wrong?)
 }
@@ -173,7 +175,7 @@ fn first_wrong_of_new<
 #[test]
 fn lookups_that_hang_delay_no_other(rt: HostRuntime) -> Result<(), Fail> {
     let seen = Seen::new(rt.alloc())?;
-    let wrong = first_wrong_of_new(&rt, &seen);
+    let wrong = first_wrong_of_new(&rt, &rt, &seen);
     drop(seen);
     match wrong? {
         None => Ok(()),

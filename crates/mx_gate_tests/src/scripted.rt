@@ -219,10 +219,16 @@ fn wrong_row_there(alloc: Global) -> Result<Option<&'static str>, OutOfMemory> {
     wrong
 }
 
+/// Fails with the first row of all of which a step answers otherwise.
+fn are_so(alloc: Global) -> Result<(), Fail> {
+    ready::are_so(alloc, &ready::ROWS)?;
+    match paced::wrong_row(alloc)?.or(wrong_row_there(alloc)?) {
+        Some(name) => Err(name.into()),
+        None => Ok(()),
+    }
+}
+
 #[test]
 fn gates_and_links_from_scripts(rt: HostRuntime) -> Result<(), Fail> {
-    ready::are_so(rt.alloc(), &ready::ROWS)?;
-    let wrong = [paced::wrong_row(rt.alloc())?, wrong_row_there(rt.alloc())?];
-    assert_eq!(rt; wrong, [None; 2]);
-    Ok(())
+    are_so(rt.alloc())
 }
