@@ -5,6 +5,16 @@ use mx_file_name::{FileName, file_name};
 use mx_save::Body;
 use mx_types::OutOfMemory;
 use std::alloc::Global;
+use std::test::Fail;
+
+/// Fails with the row in which something else comes, if there is one.
+pub fn none_of(wrong: Result<Option<&'static str>, OutOfMemory>) -> Result<(), Fail> {
+    match wrong {
+        Ok(None) => Ok(()),
+        Ok(Some(row)) => Err(row.into()),
+        Err(OutOfMemory) => Err(OutOfMemory.into()),
+    }
+}
 
 /// A body of these pieces.
 #[derive(Clone, Copy)]

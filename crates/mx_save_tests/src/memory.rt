@@ -1,7 +1,7 @@
 //! Saving to a folder in memory.
 ghost use Rattle.std.specs.Prelude.{◌≢◌};
 
-use crate::bodies::{Pieces, is_same, name_of};
+use crate::bodies::{Pieces, is_same, name_of, none_of};
 use mx_file_name::{FileName, PartName, part_name};
 use mx_folder::{Folder, FolderError, Kind, MemoryFolder};
 use mx_save::{Ledger, PartError, SaveError, Unsaved, save_body};
@@ -571,19 +571,32 @@ fn wrong_words() -> Option<&'static str> {
     None
 }
 
+/// How many parts the rows have.
+const PARTS: u32 = 8;
+
+// The first row of a part in which something else comes.
+fn wrong_of(alloc: Global, number: u32) -> Result<Option<&'static str>, OutOfMemory> {
+    match number {
+        0 => wrong_of_faults(alloc),
+        1 => wrong_of_left(alloc),
+        2 => wrong_of_two(alloc),
+        3 => wrong_of_taken(alloc),
+        4 => wrong_of_want(alloc),
+        5 => wrong_of_looks(alloc),
+        6 => wrong_of_named(alloc),
+        _ => Ok(wrong_words()),
+    }
+}
+
+// Fails with the first row of all.
+fn are_right(alloc: Global) -> Result<(), Fail> {
+    for number in 0..PARTS {
+        none_of(wrong_of(alloc, number))?;
+    }
+    Ok(())
+}
+
 #[test]
 fn each_row(rt: HostRuntime) -> Result<(), Fail> {
-    let alloc = rt.alloc();
-    let wrong = [
-        wrong_of_faults(alloc)?,
-        wrong_of_left(alloc)?,
-        wrong_of_two(alloc)?,
-        wrong_of_taken(alloc)?,
-        wrong_of_want(alloc)?,
-        wrong_of_looks(alloc)?,
-        wrong_of_named(alloc)?,
-        wrong_words(),
-    ];
-    assert_eq!(rt; wrong, [None; 8]);
-    Ok(())
+    are_right(rt.alloc())
 }

@@ -1,6 +1,6 @@
 //! The names that URLs give, alone and in a run, and the names of parts.
 
-use crate::bodies::is_same;
+use crate::bodies::{is_same, none_of};
 use mx_file_name::{FileName, Names, file_name, part_name, path_of};
 use mx_types::OutOfMemory;
 use std::alloc::Global;
@@ -192,16 +192,29 @@ fn wrong_of_parts(alloc: Global) -> Result<Option<&'static str>, OutOfMemory> {
     Ok(None)
 }
 
+/// How many parts the rows have.
+const PARTS: u32 = 5;
+
+// The first row of a part that has another name.
+fn wrong_of(alloc: Global, number: u32) -> Result<Option<&'static str>, OutOfMemory> {
+    match number {
+        0 => wrong_of_urls(alloc),
+        1 => wrong_of_a_run(alloc),
+        2 => wrong_of_long(alloc),
+        3 => wrong_of_many(alloc),
+        _ => wrong_of_parts(alloc),
+    }
+}
+
+// Fails with the first row of all.
+fn are_right(alloc: Global) -> Result<(), Fail> {
+    for number in 0..PARTS {
+        none_of(wrong_of(alloc, number))?;
+    }
+    Ok(())
+}
+
 #[test]
 fn each_row(rt: HostRuntime) -> Result<(), Fail> {
-    let alloc = rt.alloc();
-    let wrong = [
-        wrong_of_urls(alloc)?,
-        wrong_of_a_run(alloc)?,
-        wrong_of_long(alloc)?,
-        wrong_of_many(alloc)?,
-        wrong_of_parts(alloc)?,
-    ];
-    assert_eq!(rt; wrong, [None; 5]);
-    Ok(())
+    are_right(rt.alloc())
 }

@@ -318,29 +318,33 @@ fn wrong_step<R: Files + AllocGlobal>(
     steps: &[Step],
 ) -> Result<Option<usize>, OutOfMemory> {
     let mut open = None;
-    for (i, step) in steps.iter().enumerate() {
-        if !is_right(rt, &mut open, step)? {
+    for i in 0..steps.len() {
+        if !is_right(rt, &mut open, &steps[i])? {
             return Ok(Some(i));
         }
     }
     Ok(None)
 }
 
-// The first scenario with such a step, and the number of that.
-fn first_wrong<R: Files + AllocGlobal>(
-    rt: &R,
-) -> Result<Option<(&'static str, usize)>, OutOfMemory> {
-    for row in SCENARIOS.iter() {
-        let _ = fs::remove_dir_all(rt, row.root);
-        if let Some(step) = wrong_step(rt, row.steps)? {
-            return Ok(Some((row.name, step)));
-        }
+// Fails with the scenario where it has such a step, and with the number of that.
+fn play<R: Files + AllocGlobal>(rt: &R, row: &Scenario) -> Result<(), Fail> {
+    let _ = fs::remove_dir_all(rt, row.root);
+    let name = row.name;
+    match wrong_step(rt, row.steps)? {
+        Some(step) => Err(Fail::new(format_args!("{name}: step {step}"))),
+        None => Ok(()),
     }
-    Ok(None)
+}
+
+// Fails with the first that does.
+fn play_each<R: Files + AllocGlobal>(rt: &R) -> Result<(), Fail> {
+    for row in &SCENARIOS {
+        play(rt, row)?;
+    }
+    Ok(())
 }
 
 #[test]
 fn each_row(rt: HostRuntime) -> Result<(), Fail> {
-    assert_eq!(rt; first_wrong(&rt)?, None);
-    Ok(())
+    play_each(&rt)
 }
