@@ -39,7 +39,7 @@ struct Row<'a> {
 }
 
 // How a transfer ended. Of one that was refused memory the bytes that its last link gave are there up to some read.
-fn end_of(outcome: &Outcome, row: Row<'_>) -> Went {
+fn end_of(outcome: &Outcome, row: &Row<'_>) -> Went {
     let is_empty = outcome.part_count() == 0 && outcome.body_len() == 0;
     if outcome.code() == Code::OutOfMemory {
         let is_front = outcome.hops() < row.hops || row.wire.starts_with(outcome.wire());
@@ -67,7 +67,7 @@ fn copy(alloc: Global, outcome: &Outcome) -> Went {
 }
 
 // How a transfer ended, and how its body was copied then: once more where that was refused memory.
-fn judge(alloc: Global, outcome: &Outcome, row: Row<'_>) -> Went {
+fn judge(alloc: Global, outcome: &Outcome, row: &Row<'_>) -> Went {
     let went = end_of(outcome, row);
     if went != Went::Right {
         return went;
@@ -83,7 +83,7 @@ fn poll_on(
     alloc: Global,
     task: &MockTask,
     transfer: &mut Transfer<ScriptLink>,
-    row: Row<'_>,
+    row: &Row<'_>,
 ) -> Option<Went> {
     for _ in 0..4 {
         if transfer.spent() || transfer.wants().is_some() {
@@ -103,7 +103,7 @@ fn serve(
     alloc: Global,
     task: &MockTask,
     transfer: &mut Transfer<ScriptLink>,
-    row: Row<'_>,
+    row: &Row<'_>,
 ) -> Result<Went, Stop> {
     for reads in row.links {
         attach_script(alloc, transfer, *reads, &[], false)?;
@@ -115,7 +115,7 @@ fn serve(
 }
 
 // Serves a new transfer.
-fn run(alloc: Global, task: &MockTask, row: Row<'_>) -> Result<Went, Stop> {
+fn run(alloc: Global, task: &MockTask, row: &Row<'_>) -> Result<Went, Stop> {
     let request = request_of(alloc, Method::Get, &TWICE)?;
     let mut transfer = transfer_of(alloc, request, row.heads_alone);
     let served = serve(alloc, task, &mut transfer, row);
@@ -124,7 +124,7 @@ fn run(alloc: Global, task: &MockTask, row: Row<'_>) -> Result<Went, Stop> {
 }
 
 // Serves a new transfer, and another where memory was refused.
-fn run_again(alloc: Global, task: &MockTask, row: Row<'_>) -> Result<(), Stop> {
+fn run_again(alloc: Global, task: &MockTask, row: &Row<'_>) -> Result<(), Stop> {
     match run(alloc, task, row)? {
         Went::Right => Ok(()),
         Went::Wrong => Err(Stop::Part("another end")),
@@ -143,7 +143,7 @@ fn run_byte_by_byte(alloc: Global, task: &MockTask) -> Result<(), Stop> {
         hops: 1,
         heads_alone: false,
     };
-    let ran = run_again(alloc, task, row);
+    let ran = run_again(alloc, task, &row);
     drop(reads);
     ran
 }
@@ -165,8 +165,8 @@ fn run_chain(alloc: Global, task: &MockTask) -> Result<(), Stop> {
         heads_alone: false,
     };
     let heads_alone = true;
-    run_again(alloc, task, row)?;
-    run_again(alloc, task, Row { heads_alone, ..row })
+    run_again(alloc, task, &row)?;
+    run_again(alloc, task, &Row { heads_alone, ..row })
 }
 
 /// A response after a redirect.
