@@ -203,11 +203,19 @@ fn holds<R: Runtime + Net<Listener = TcpListener, Stream = TcpStream>>(
     Ok(is_as_planned(rt.alloc(), row, port, &ran)? && are_right)
 }
 
-#[test]
-fn what_get_prints(rt: HostRuntime) -> Result<(), Fail> {
+/// Fails with the first row whose URLs have other results.
+fn try_each<R: Runtime + Net<Listener = TcpListener, Stream = TcpStream>>(
+    rt: &R,
+) -> Result<(), Fail> {
     for row in &ROWS {
-        let holds = holds(&rt, row)?;
-        assert!(rt; holds, "{}", row.name);
+        if !holds(rt, row)? {
+            return Err(row.name.into());
+        }
     }
     Ok(())
+}
+
+#[test]
+fn what_get_prints(rt: HostRuntime) -> Result<(), Fail> {
+    try_each(&rt)
 }

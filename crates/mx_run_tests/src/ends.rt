@@ -24,7 +24,6 @@ enum Came {
 }
 
 /// The end of a URL, its line, and the two halves of its object.
-#[derive(Clone, Copy)]
 struct Row {
     name: &'static str,
     url: &'static [u8],
@@ -124,7 +123,7 @@ static ENDS: [Row; 6] = [
     },
 ];
 
-fn end_of(alloc: Global, row: Row) -> Result<End, AllocError> {
+fn end_of(alloc: Global, row: &Row) -> Result<End, AllocError> {
     let url = Vec::from_slice(alloc, row.url)?;
     Ok(match row.came {
         Came::Saved(file) => End::saved(url, String::from_str(alloc, file)?, row.transferred),
@@ -146,14 +145,14 @@ fn end_of(alloc: Global, row: Row) -> Result<End, AllocError> {
 }
 
 /// Whether the line of an end is that one.
-fn is_line(alloc: Global, end: &End, row: Row) -> bool {
+fn is_line(alloc: Global, end: &End, row: &Row) -> bool {
     let mut line = Vec::new(alloc);
     let _ = print_line(&mut Output::new(&mut line), end);
     line.as_slice() == row.line
 }
 
 /// Whether its object is that one.
-fn is_object(alloc: Global, end: &End, row: Row) -> bool {
+fn is_object(alloc: Global, end: &End, row: &Row) -> bool {
     let mut object = Vec::new(alloc);
     let _ = print_json(alloc, &mut Output::new(&mut object), end);
     match object.as_slice().strip_prefix(row.front) {
@@ -175,7 +174,7 @@ fn is_unwritten(alloc: Global, end: &End) -> bool {
     line.is_err() && matches!(object, Err(JsonError::Unwritten))
 }
 
-fn see_end(alloc: Global, tally: &mut RowTally, row: Row) -> Result<(), AllocError> {
+fn see_end(alloc: Global, tally: &mut RowTally, row: &Row) -> Result<(), AllocError> {
     let end = end_of(alloc, row)?;
     let is_printed = is_line(alloc, &end, row) && is_object(alloc, &end, row);
     let is_unwritten = is_unwritten(alloc, &end);
@@ -186,7 +185,7 @@ fn see_end(alloc: Global, tally: &mut RowTally, row: Row) -> Result<(), AllocErr
 
 fn see_ends(alloc: Global, tally: &mut RowTally) -> Result<(), AllocError> {
     for row in &ENDS {
-        see_end(alloc, tally, *row)?;
+        see_end(alloc, tally, row)?;
     }
     Ok(())
 }
