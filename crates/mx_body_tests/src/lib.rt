@@ -1,4 +1,5 @@
-//! Tests of heads and bodies, and of the reasons why bytes are refused, by public calls alone. There is nothing in this crate but tests.
+//! Tests of heads and bodies, of responses whose content is handed on, and of the reasons why bytes are refused, by public calls alone. There
+//! is nothing in this crate but tests.
 #![tactic(auto)]
 
 #[cfg(test)]
@@ -19,6 +20,8 @@ mod reasons;
 mod refused;
 #[cfg(test)]
 mod row;
+#[cfg(test)]
+mod streams;
 #[cfg(test)]
 mod table;
 #[cfg(test)]
