@@ -108,10 +108,11 @@ pub(crate) fn fits<Q: Work + Drop, O: Ending + Drop, R: Wait>(
 impl<Q: Work + Drop, O: Ending + Drop> Multi<Q, O> {
     // rule multi-sleeping-poll, unproved: A poll that sleeps is woken.
     //
-    // Wakes those that wait, which then look again.
+    // Wakes those that wait, which then look again: they take the lock of the count, so that is free by then.
     pub(crate) fn tell<R: Wait>(&self, rt: &R) {
         let mut changes = self.changes.lock(rt);
         *changes = changes.wrapping_add(1);
+        drop(changes);
         self.changed.notify_all();
     }
 
