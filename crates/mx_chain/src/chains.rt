@@ -9,7 +9,7 @@ ghost use Rattle.mx_chain.specs.Chains.{ChainState, IsChain, begun, begun_with_h
 
 use crate::followed::Hops;
 use crate::outcomes::{Outcome, is_ok};
-use mx_exchange::{Exchange, Hop, Turned, Want};
+use mx_exchange::{Exchange, Hop, ReadBuffer, Turned, Want};
 use mx_link::Link;
 use mx_request::{Endpoint, Request, RequestError, is_redirect as sends_on};
 use mx_types::Code;
@@ -220,6 +220,13 @@ impl<L: Link> Chain<L> {
         ensures { self.new ≡ record self.old { now = record self.old.now { failure = Some code } } }
     {
         self.exchange.fail_link(code);
+    }
+
+    /// Gives the buffer of its reads, and takes this one in its place, as who lends one does before a turn and after it.
+    pub fn swap_buffer(&mut self, other: &mut ReadBuffer)
+        ensures { self.new ≡ self.old }
+    {
+        self.exchange.swap_buffer(other);
     }
 
     /// Sets the inputs of the turns until the next call: the moment in milliseconds, and whether it is paused.

@@ -8,4 +8,4 @@ mod outcomes;
 
 pub use crate::chains::{Chain, Stepped};
 pub use crate::outcomes::Outcome;
-pub use mx_exchange::Want;
+pub use mx_exchange::{ReadBuffer, Want};

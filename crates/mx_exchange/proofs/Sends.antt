@@ -39,7 +39,7 @@ opt_line : (L : RattleType) (g : link.Ghosts L.Denot) → IsSend L → IsSend (O
 opt_line L g s = let a = line_send L g s in search (sendable) depth 40
 
 live_field : (L : RattleType) (g : link.Ghosts L.Denot) → IsSend L → IsSend (Live.the_field L g).row
-live_field L g s = struct_send (shape (Live.the_type L g)) (request_send, (decoder_send, (opt_line L g s, (search (sendable, crosses) depth 40, tt))))
+live_field L g s = struct_send (shape (Live.the_type L g)) (request_send, (decoder_send, (opt_line L g s, tt)))
 
 ended_field : (L : RattleType) (g : link.Ghosts L.Denot) → IsSend L → IsSend (Ended.the_field L g).row
 ended_field L g s = struct_send (shape (Ended.the_type L g)) (search (sendable, crosses) depth 40, (search (sendable, crosses) depth 40, (opt_line L g s, (search (sendable, crosses) depth 40, tt))))
@@ -48,7 +48,7 @@ stage_field : (L : RattleType) (g : link.Ghosts L.Denot) → IsSend L → IsSend
 stage_field L g s = enum_send (enum_shape (Stage.the_type L g)) ((live_field L g s, tt), ((ended_field L g s, tt), tt))
 
 inside_field : (L : RattleType) (g : link.Ghosts L.Denot) → IsSend L → IsSend (Inside.the_field L g).row
-inside_field L g s = struct_send (shape (Inside.the_type L g)) (search (sendable, crosses) depth 40, (search (sendable, crosses) depth 40, (stage_field L g s, (search (sendable, crosses) depth 40, (search (sendable, crosses) depth 40, (search (sendable, crosses) depth 40, (search (sendable, crosses) depth 40, (search (sendable, crosses) depth 40, (search (sendable, crosses) depth 40, (search (sendable, crosses) depth 40, tt))))))))))
+inside_field L g s = struct_send (shape (Inside.the_type L g)) (search (sendable, crosses) depth 40, (search (sendable, crosses) depth 40, (stage_field L g s, (search (sendable, crosses) depth 40, (search (sendable, crosses) depth 40, (search (sendable, crosses) depth 40, (search (sendable, crosses) depth 40, (search (sendable, crosses) depth 40, (search (sendable, crosses) depth 40, (search (sendable, crosses) depth 40, (search (sendable, crosses) depth 40, tt)))))))))))
 
 pub exchange_send : (L : RattleType) (g : link.Ghosts L.Denot) → IsSend L → IsSend (Exchange.the_row L g)
 exchange_send L g s =

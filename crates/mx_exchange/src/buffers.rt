@@ -8,15 +8,22 @@ use std::alloc::Global;
 /// The most bytes of one read.
 pub(crate) const READ_BYTES: usize = 16_384;
 
-/// The buffer of an exchange's reads. It is made at the first turn that calls a link, and kept, so that a turn that finds nothing doesn't
-/// pay for it.
-#[derive(Drop)]
-pub(crate) struct ReadBuffer {
-    pub bytes: Vec<u8>,
+/// What reads of a link go into. It is made at the first turn that calls a link, and kept, so that a turn that finds nothing doesn't pay for
+/// it. Who polls many transfers lends each the same one for its poll.
+pub struct ReadBuffer {
+    pub(crate) bytes: Vec<u8>,
+}
+
+// Written out, and not derived: a crate that drops a buffer cites its proof.
+impl Drop for ReadBuffer {
+    fn drop(self) {
+        let ReadBuffer { bytes } = self;
+        drop(bytes);
+    }
 }
 
 impl ReadBuffer {
-    /// None yet.
+    /// None yet: it takes no memory.
     pub fn new(alloc: Global) -> ReadBuffer {
         ReadBuffer {
             bytes: Vec::new(alloc),
@@ -24,7 +31,7 @@ impl ReadBuffer {
     }
 
     /// Makes it, unless it is there. False where memory for it is refused.
-    pub fn make(&mut self) -> bool
+    pub(crate) fn make(&mut self) -> bool
         ensures { IsTrue result → length (vec_items self.new.bytes) ≡ most_read }
     {
         self.bytes.len() == READ_BYTES || self.bytes.resize(READ_BYTES, 0).is_ok()

@@ -6,6 +6,7 @@ ghost use Rattle.mx_types.specs.Code.{is_link_code};
 mod stages;
 pub(crate) mod turns;
 
+use crate::buffers::ReadBuffer;
 use crate::exchanges::stages::{Live, Stage, received};
 use crate::lines::Line;
 use mx_link::Link;
@@ -37,6 +38,7 @@ pub struct Exchange<L: Link> {
     is_paused: bool,
     is_polled: bool,
     deadline: Option<u64>,
+    buffer: ReadBuffer,
 }
 
 // Written out, and not derived: a crate that drops an exchange cites its proof.
@@ -53,9 +55,11 @@ impl<L: Link> Drop for Exchange<L> {
             is_paused: _,
             is_polled: _,
             deadline: _,
+            buffer,
         } = self;
         drop(about);
         drop(stage);
+        drop(buffer);
     }
 }
 
@@ -109,6 +113,7 @@ impl<L: Link> Exchange<L> {
             is_paused: false,
             is_polled: false,
             deadline: None,
+            buffer: ReadBuffer::new(alloc),
         }
     }
 
@@ -128,8 +133,10 @@ impl<L: Link> Exchange<L> {
             is_paused: _,
             is_polled: _,
             deadline: _,
+            buffer,
         } = self;
         drop(about);
+        drop(buffer);
         match stage {
             Stage::Live(live) => live.request,
             Stage::Ended(_) => unreachable!(),
@@ -194,6 +201,13 @@ impl<L: Link> Exchange<L> {
         ensures { self.new ≡ record self.old { failure = Some code } }
     {
         self.failure = Some(code);
+    }
+
+    /// Gives the buffer of its reads, and takes this one in its place, as who lends one does before a turn and after it.
+    pub fn swap_buffer(&mut self, other: &mut ReadBuffer)
+        ensures { self.new ≡ self.old }
+    {
+        mem::swap(&mut self.buffer, other);
     }
 
     /// Sets the inputs of the turns until the next call: the moment in milliseconds, and whether it is paused.

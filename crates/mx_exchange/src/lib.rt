@@ -8,6 +8,7 @@ mod hops;
 pub mod laws;
 mod lines;
 
+pub use crate::buffers::ReadBuffer;
 pub use crate::exchanges::turns::Turned;
 pub use crate::exchanges::{Exchange, Want};
 pub use crate::hops::Hop;

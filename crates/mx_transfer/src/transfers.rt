@@ -8,7 +8,7 @@ ghost use Rattle.mx_transfer.specs.Transfers.{TransferState};
 
 use futures::Future;
 use futures::task::{Context, Poll, Source, Waker};
-use mx_chain::{Chain, Outcome, Stepped, Want};
+use mx_chain::{Chain, Outcome, ReadBuffer, Stepped, Want};
 use mx_link::Link;
 use mx_request::{Endpoint, Request};
 use mx_types::{Code, Work};
@@ -140,6 +140,13 @@ impl<L: Link> Transfer<L> {
         ensures { self.new ≡ record self.old { chain = record self.old.chain { now = record self.old.chain.now { failure = Some code } } } }
     {
         self.chain.fail_link(code);
+    }
+
+    /// Gives the buffer of its reads, and takes this one in its place, as who lends one does before a poll and after it.
+    pub fn swap_buffer(&mut self, other: &mut ReadBuffer)
+        ensures { self.new ≡ self.old }
+    {
+        self.chain.swap_buffer(other);
     }
 
     /// Sets the inputs of the polls until the next call: the moment in milliseconds, and whether it is paused.

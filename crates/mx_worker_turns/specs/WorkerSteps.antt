@@ -25,14 +25,14 @@ pub record QueueView (T : Type 0) : Type 0 where
   pub of : Book
 
 -- what a worker has in flight
-pub record RackView (L : Type 0) : Type 0 where
+pub record InFlightView (L : Type 0) : Type 0 where
   pub held : List (Held L)
   pub set_aside : List SetAside
   pub of : Book
 
 -- how many those are
-abbrev pub racked : {L : Type 0} → RackView L → ℕ
-racked r = length r.held + length r.set_aside
+abbrev pub in_flight_count : {L : Type 0} → InFlightView L → ℕ
+in_flight_count r = length r.held + length r.set_aside
 
 -- a worker, of which list of ties its claims are, and how its engine began
 pub record WorkerView (L S : Type 0) : Type 0 where

@@ -5,10 +5,11 @@ ghost use Rattle.mx_turn.specs.Turn.{WorkerTurn, Runs};
 ghost use Rattle.mx_worker_turns.specs.WorkerSteps.{beside};
 
 use crate::engine::{Engine, Finished, Held, Right};
+use crate::in_flight::InFlight;
 use crate::queue::Queue;
-use crate::rack::Rack;
 use crate::worker_core::WorkerCore;
 use futures::task::{Doorbell, Solo};
+use mx_chain::ReadBuffer;
 use mx_gate::Gate;
 use mx_link::Link;
 use mx_turn::Links;
@@ -42,7 +43,7 @@ impl<L: Link, C: Right, E: Engine<L, C>> Model for Worker<L, C, E> {
 // The queues that a worker needs memory for.
 #[derive(Drop)]
 struct Queues<L: Link, C: Right, E: Engine<L, C>> {
-    rack: Rack<L, C, E>,
+    in_flight: InFlight<L, C, E>,
     spare_held: Queue<Held<L, C>, E>,
     spare_ends: Queue<Finished<C>, E>,
 }
@@ -59,19 +60,19 @@ fn make_queues<L: Link, C: Right, E: Engine<L, C>, R: AllocGlobal>(
     rt: &R,
     engine: &E,
 ) -> Option<Queues<L, C, E>>
-    ensures rack { IfSome result (λ q. q.rack ≡ record { held = []; set_aside = []; of = E.of engine.now }) }
+    ensures in_flight { IfSome result (λ q. q.in_flight ≡ record { held = []; set_aside = []; of = E.of engine.now }) }
     ensures held { IfSome result (λ q. q.spare_held ≡ record { items = []; of = E.of engine.now }) }
     ensures ends { IfSome result (λ q. q.spare_ends ≡ record { items = []; of = E.of engine.now }) }
 {
-    let Ok(rack) = Rack::new(rt.alloc(), engine) else {
+    let Ok(in_flight) = InFlight::new(rt.alloc(), engine) else {
         return None;
     };
     let Ok((spare_held, spare_ends)) = Queue::pair(rt.alloc(), engine) else {
-        drop(rack);
+        drop(in_flight);
         return None;
     };
     Some(Queues {
-        rack,
+        in_flight,
         spare_held,
         spare_ends,
     })
@@ -95,7 +96,7 @@ fn make_tools<L: Link, C: Right, E: Engine<L, C>, R: RandomSource + AllocGlobal>
     engine: &E,
     limit: u8,
 ) -> Option<Tools<L, C, E>>
-    ensures rack { IfSome result (λ t. t.queues.rack ≡ record { held = []; set_aside = []; of = E.of engine.now }) }
+    ensures in_flight { IfSome result (λ t. t.queues.in_flight ≡ record { held = []; set_aside = []; of = E.of engine.now }) }
     ensures links { IfSome result (λ t. t.links ≡ record { links = []; limit = limit }) }
     ensures held { IfSome result (λ t. t.queues.spare_held ≡ record { items = []; of = E.of engine.now }) }
     ensures ends { IfSome result (λ t. t.queues.spare_ends ≡ record { items = []; of = E.of engine.now }) }
@@ -132,12 +133,12 @@ impl<L: Link, C: Right, E: Engine<L, C>> Worker<L, C, E> {
             solo,
         } = tools;
         let Queues {
-            rack,
+            in_flight,
             spare_held,
             spare_ends,
         } = queues;
         Ok(Worker {
-            core: WorkerCore::new(engine, rack, links, solo),
+            core: WorkerCore::new(engine, in_flight, links, solo, ReadBuffer::new(rt.alloc())),
             spare_held,
             spare_ends,
         })

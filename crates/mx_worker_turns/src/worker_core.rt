@@ -11,12 +11,12 @@ ghost use Rattle.mx_turn.specs.Turn.{Each, Claims, Retries, LooksAt, GivesBack, 
 ghost use Rattle.mx_worker_turns.specs.WorkerSteps.{Advances, HandsIn, IsReadied, Polls, Relieves, beside};
 
 use crate::engine::{Engine, Finished, Held, LONGEST_WAIT, Right, Tied};
+use crate::in_flight::InFlight;
 use crate::next::{least_deadline, take_next};
 use crate::queue::Queue;
-use crate::rack::Rack;
 use futures::Future;
 use futures::task::{Poll, Solo};
-use mx_chain::Stepped;
+use mx_chain::{ReadBuffer, Stepped};
 use mx_gate::{Gate, Turn};
 use mx_link::Link;
 use mx_transfer::Transfer;
@@ -29,9 +29,11 @@ use std::sync::Wait;
 #[derive(Drop)]
 pub(crate) struct WorkerCore<L: Link, C: Right, E: Engine<L, C>> {
     engine: E,
-    rack: Rack<L, C, E>,
+    in_flight: InFlight<L, C, E>,
     links: Links<L>,
     solo: Solo,
+    // Of the reads of each poll.
+    buffer: ReadBuffer,
     is_stopping: bool,
     can_go_on: bool,
 }
@@ -43,12 +45,12 @@ impl<L: Link, C: Right, E: Engine<L, C>> Model for WorkerCore<L, C, E> {
     ghost Value = { WorkerView L E.Start };
 
     ghost view = { λ d. record {
-      worker = record { held = d.rack.held; set_aside = d.rack.set_aside; idle = d.links; is_stopping = d.is_stopping; can_go_on = d.can_go_on; did = E.did d.engine; said = [] };
+      worker = record { held = d.in_flight.held; set_aside = d.in_flight.set_aside; idle = d.links; is_stopping = d.is_stopping; can_go_on = d.can_go_on; did = E.did d.engine; said = [] };
       of = E.of d.engine;
       start = E.start d.engine;
     } };
 
-    ghost invariant = { λ d. d.rack.of ≡ E.of d.engine };
+    ghost invariant = { λ d. d.in_flight.of ≡ E.of d.engine };
 }
 
 // The lesser of the longest wait and the milliseconds to the next deadline of these.
@@ -62,9 +64,9 @@ fn least_left<L: Link, C: Right, E: Tied>(held: &Queue<Held<L, C>, E>, now: u64)
     least
 }
 
-// One poll, in the context of the worker's one task. The task goes on whatever the poll answers.
+// One poll, in the context of the worker's one task, with this buffer for its reads. The task goes on whatever the poll answers.
 // A task that has ended can't say whether a poll asked for another.
-fn poll_once<L: Link>(solo: &Solo, transfer: &mut Transfer<L>) -> Stepped
+fn poll_once<L: Link>(solo: &Solo, buffer: &mut ReadBuffer, transfer: &mut Transfer<L>) -> Stepped
     requires running { transfer.old.chain.code ≡ None }
     ensures steps { Steps L.history transfer.old.chain transfer.new.chain (how_of result) }
     ensures value { IfEnded result (λ o. o.request ≡ transfer.old.chain.request) }
@@ -72,7 +74,10 @@ fn poll_once<L: Link>(solo: &Solo, transfer: &mut Transfer<L>) -> Stepped
     ensures same { IfGoing result (transfer.new.chain.request ≡ transfer.old.chain.request) }
 {
     let mut cx = solo.begin();
-    match transfer.poll(&mut cx) {
+    transfer.swap_buffer(buffer);
+    let polled = transfer.poll(&mut cx);
+    transfer.swap_buffer(buffer);
+    match polled {
         Poll::Ready(outcome) => {
             let _again: Poll<()> = cx.yield_now();
             cx.park();
@@ -135,19 +140,26 @@ fn hand_in<L: Link, C: Right, E: Engine<L, C>, R: Wait>(
 }
 
 impl<L: Link, C: Right, E: Engine<L, C>> WorkerCore<L, C, E> {
-    pub fn new(engine: E, rack: Rack<L, C, E>, links: Links<L>, solo: Solo) -> WorkerCore<L, C, E>
-        requires { rack.of ≡ E.of engine }
+    pub fn new(
+        engine: E,
+        in_flight: InFlight<L, C, E>,
+        links: Links<L>,
+        solo: Solo,
+        buffer: ReadBuffer,
+    ) -> WorkerCore<L, C, E>
+        requires { in_flight.of ≡ E.of engine }
         ensures { result ≡ record {
-          worker = record { held = rack.held; set_aside = rack.set_aside; idle = links; is_stopping = false; can_go_on = false; did = E.did engine; said = [] };
+          worker = record { held = in_flight.held; set_aside = in_flight.set_aside; idle = links; is_stopping = false; can_go_on = false; did = E.did engine; said = [] };
           of = E.of engine;
           start = E.start engine;
         } }
     {
         WorkerCore {
             engine,
-            rack,
+            in_flight,
             links,
             solo,
+            buffer,
             is_stopping: false,
             can_go_on: false,
         }
@@ -159,14 +171,16 @@ impl<L: Link, C: Right, E: Engine<L, C>> WorkerCore<L, C, E> {
     {
         let WorkerCore {
             engine,
-            rack,
+            in_flight,
             links,
             solo,
+            buffer,
             ..
         } = self;
-        drop(rack);
+        drop(in_flight);
         drop(links);
         drop(solo);
+        drop(buffer);
         engine
     }
 
@@ -175,7 +189,7 @@ impl<L: Link, C: Right, E: Engine<L, C>> WorkerCore<L, C, E> {
     pub fn is_over(&self) -> bool
         ensures { IsTrue result ↔ IsOver self.now.worker }
     {
-        self.is_stopping && self.rack.is_empty()
+        self.is_stopping && self.in_flight.is_empty()
     }
 
     // rule turn-claims
@@ -185,7 +199,7 @@ impl<L: Link, C: Right, E: Engine<L, C>> WorkerCore<L, C, E> {
         requires own { held.of ≡ self.old.of }
         ensures held { self.new ≡ record self.old { worker = holds self.old.worker held.held } }
     {
-        self.rack.hold(held);
+        self.in_flight.hold(held);
     }
 
     // Notes whether something could go on at once: then this turn isn't to wait.
@@ -223,7 +237,7 @@ impl<L: Link, C: Right, E: Engine<L, C>> WorkerCore<L, C, E> {
         ensures claims { Claims self.old.worker self.new.worker }
         ensures same { self.new ≡ record self.old { worker = self.new.worker } }
     {
-        if self.is_stopping || !self.rack.has_room() {
+        if self.is_stopping || !self.in_flight.has_room() {
             return;
         }
         let Some(claimed) = self.engine.claim(rt) else {
@@ -232,7 +246,7 @@ impl<L: Link, C: Right, E: Engine<L, C>> WorkerCore<L, C, E> {
         // proof: the transfer has not ended
         claimed.know();
         self.hold(claimed);
-        let has_room = self.rack.has_room();
+        let has_room = self.in_flight.has_room();
         self.go_on_if(has_room);
     }
 
@@ -244,7 +258,7 @@ impl<L: Link, C: Right, E: Engine<L, C>> WorkerCore<L, C, E> {
         ensures same { self.new ≡ record self.old { worker = self.new.worker } }
     {
         if let Some(finished) = hand_in(rt, &mut self.engine, finished) {
-            self.rack.set_aside(finished);
+            self.in_flight.set_aside(finished);
         }
     }
 
@@ -280,7 +294,7 @@ impl<L: Link, C: Right, E: Engine<L, C>> WorkerCore<L, C, E> {
         ensures request { IfGoing result (transfer.new.chain.request ≡ transfer.old.chain.request) }
         ensures same { self.new ≡ record self.old { worker = self.new.worker } }
     {
-        let stepped = poll_once(&self.solo, transfer);
+        let stepped = poll_once(&self.solo, &mut self.buffer, transfer);
         // Before the end is recorded: from then on the slot may be another transfer's.
         self.engine.note(right, transfer.received());
         self.links.keep(transfer);
@@ -438,7 +452,7 @@ impl<L: Link, C: Right, E: Engine<L, C>> WorkerCore<L, C, E> {
         ensures spare { todo.new ≡ todo.old }
         ensures same { self.new ≡ record self.old { worker = self.new.worker } }
     {
-        self.rack.swap_set_aside(todo);
+        self.in_flight.swap_set_aside(todo);
         self.retry_those(rt, todo);
     }
 
@@ -456,7 +470,7 @@ impl<L: Link, C: Right, E: Engine<L, C>> WorkerCore<L, C, E> {
         ensures spare { todo.new ≡ todo.old }
         ensures same { self.new ≡ record self.old { worker = self.new.worker } }
     {
-        self.rack.swap_held(todo);
+        self.in_flight.swap_held(todo);
         self.go_through(rt, gate, now, todo)
     }
 
@@ -468,7 +482,7 @@ impl<L: Link, C: Right, E: Engine<L, C>> WorkerCore<L, C, E> {
         if self.can_go_on {
             return 0;
         }
-        least_left(self.rack.held(), now)
+        least_left(self.in_flight.held(), now)
     }
 
     // Gives back what has not started, in order of claim.
@@ -480,7 +494,7 @@ impl<L: Link, C: Right, E: Engine<L, C>> WorkerCore<L, C, E> {
         ensures same { self.new ≡ record self.old { worker = self.new.worker } }
     {
         self.is_stopping = true;
-        self.rack.swap_held(todo);
+        self.in_flight.swap_held(todo);
         self.stop_those(rt, todo);
     }
 

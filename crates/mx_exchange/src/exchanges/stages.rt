@@ -8,7 +8,6 @@ ghost use Rattle.mx_exchange.specs.Lines.{IsGoing, MayHandOut};
 ghost use Rattle.mx_exchange.specs.Hops.{MayEnd};
 ghost use Rattle.mx_exchange.specs.Stages.{link_of, answers_of, reused_of};
 
-use crate::buffers::ReadBuffer;
 use crate::hops::Hop;
 use crate::lines::Line;
 use mx_body::Decoder;
@@ -18,13 +17,12 @@ use mx_types::{Code, History};
 use std::alloc::Global;
 use std::snapshot::Snapshot;
 
-/// A request, the decoder of its response, the link that serves it, if one does, and the buffer of its reads.
+/// A request, the decoder of its response, and the link that serves it, if one does.
 #[derive(Drop)]
 pub(super) struct Live<L: Link> {
     pub(super) request: Request,
     pub(super) decoder: Decoder,
     pub(super) line: Option<Line<L>>,
-    pub(super) buffer: ReadBuffer,
 }
 
 /// What is left once it has ended: its code, how many bytes came, its link until that is handed out, and whether it may be.
@@ -55,7 +53,6 @@ impl<L: Link> Live<L> {
             request,
             decoder,
             line: None,
-            buffer: ReadBuffer::new(alloc),
         }
     }
 

@@ -5,6 +5,7 @@ ghost use Rattle.mx_exchange.specs.Endings.{IsUndecided, is_stop_code};
 
 use super::Exchange;
 use super::stages::{Ended, Live, Stage, end, may_keep, received};
+use crate::buffers::ReadBuffer;
 use crate::calls::Halt;
 use crate::hops::Hop;
 use crate::lines::Line;
@@ -121,7 +122,6 @@ impl<L: Link> Exchange<L> {
             request,
             decoder,
             line,
-            buffer: _,
         } = live;
         self.settle(Ended {
             code,
@@ -152,8 +152,8 @@ impl<L: Link> Exchange<L> {
         false
     }
 
-    // Asks the link, if there is one.
-    fn exchange(&mut self, live: Live<L>) -> Turned
+    // Asks the link, if there is one, with this buffer for its reads.
+    fn exchange(&mut self, live: Live<L>, buffer: &mut ReadBuffer) -> Turned
         requires live { IsAlive L.history L.asked L.token_of self.old.request self.old.needs_fresh self.old.failure live }
         requires probed { (alive self.old live).needs_probe ≡ false }
         ensures turn { Exchanged L.history (alive self.old live) self.new (how_of result) }
@@ -163,24 +163,21 @@ impl<L: Link> Exchange<L> {
             request,
             mut decoder,
             line,
-            mut buffer,
         } = live;
         let Some(mut line) = line else {
             self.go_on(Live {
                 request,
                 decoder,
                 line: None,
-                buffer,
             });
             return Turned::Waits;
         };
-        match line.serve(&request, &mut decoder, &mut buffer) {
+        match line.serve(&request, &mut decoder, buffer) {
             Halt::Blocked => {
                 self.go_on(Live {
                     request,
                     decoder,
                     line: Some(line),
-                    buffer,
                 });
                 Turned::Waits
             }
@@ -189,7 +186,6 @@ impl<L: Link> Exchange<L> {
                     request,
                     decoder,
                     line: Some(line),
-                    buffer,
                 });
                 Turned::Asks
             }
@@ -211,6 +207,20 @@ impl<L: Link> Exchange<L> {
                 Turned::Ended(end(request, decoder, code, answers, is_reused))
             }
         }
+    }
+
+    // The same, with the buffer that it has.
+    fn exchange_buffered(&mut self, live: Live<L>) -> Turned
+        requires live { IsAlive L.history L.asked L.token_of self.old.request self.old.needs_fresh self.old.failure live }
+        requires probed { (alive self.old live).needs_probe ≡ false }
+        ensures turn { Exchanged L.history (alive self.old live) self.new (how_of result) }
+        ensures token { KeepsToken L.token_of (link_of live.line) self.new.link }
+    {
+        let mut buffer = ReadBuffer::new(self.alloc);
+        self.swap_buffer(&mut buffer);
+        let turned = self.exchange(live, &mut buffer);
+        self.swap_buffer(&mut buffer);
+        turned
     }
 
     // Takes out what goes on.
@@ -251,7 +261,7 @@ impl<L: Link> Exchange<L> {
             self.go_on(live);
             return Turned::Waits;
         }
-        self.exchange(live)
+        self.exchange_buffered(live)
     }
 
     // rule exchange-order

@@ -8,8 +8,8 @@ returns-then-lacks_link-clause-turn g c = Touch-unserved _ _ _ c.requires.may (c
 pub returns-then-lacks_link-clause-token : goal.returns-then-lacks_link-clause-token
 returns-then-lacks_link-clause-token g c = keeps_same g.L.Link.history g.L.Link.token_of _ _ refl
 
-pub exchange-requires-clause-probed : goal.exchange-requires-clause-probed
-exchange-requires-clause-probed g c = probed_ready _ _ _ c.if-not-probe.ensures.probe
+pub exchange_buffered-requires-clause-probed : goal.exchange_buffered-requires-clause-probed
+exchange_buffered-requires-clause-probed g c = probed_ready _ _ _ c.if-not-probe.ensures.probe
 
 pub returns-then-not-probe-clause-turn : goal.returns-then-not-probe-clause-turn
 returns-then-not-probe-clause-turn g c = Touch-refused _ _ _ _ _ c.take-live.ensures.is c.requires.may c.if-not-probe.ensures.probe c.go_on.ensures
@@ -18,7 +18,7 @@ pub returns-then-not-probe-clause-token : goal.returns-then-not-probe-clause-tok
 returns-then-not-probe-clause-token g c = touch_dropped g.L.Link.history g.L.Link.token_of _ _ _ _ c.take-live.ensures.is c.if-not-probe.ensures.probe c.go_on.ensures
 
 pub returns-clause-turn : goal.returns-clause-turn
-returns-clause-turn g c = Touch-turned _ _ _ _ _ _ c.take-live.ensures.is c.requires.may c.if-not-probe.ensures.probe c.exchange.ensures.turn
+returns-clause-turn g c = Touch-turned _ _ _ _ _ _ c.take-live.ensures.is c.requires.may c.if-not-probe.ensures.probe c.exchange_buffered.ensures.turn
 
 pub returns-clause-token : goal.returns-clause-token
-returns-clause-token g c = touch_kept g.L.Link.history g.L.Link.token_of _ _ _ _ c.take-live.ensures.is c.if-not-probe.ensures.probe c.if-not-probe.ensures.token c.exchange.ensures.token
+returns-clause-token g c = touch_kept g.L.Link.history g.L.Link.token_of _ _ _ _ c.take-live.ensures.is c.if-not-probe.ensures.probe c.if-not-probe.ensures.token c.exchange_buffered.ensures.token

@@ -1,5 +1,5 @@
 use Rattle.std.proofs.Common.{◌∙◌, sym, ap, refl}
-use Rattle.mx_worker_turns.specs.WorkerSteps.{WorkerView, EndView, RackView}
+use Rattle.mx_worker_turns.specs.WorkerSteps.{WorkerView, EndView, InFlightView}
 use Rattle.mx_worker_turns.proofs.Looking.{alike}
 use Rattle.mx_worker_turns.proofs.Handing.{came_back, was_taken, was_set_aside}
 use Rattle.mx_worker_turns.proofs.worker_core.WorkerCore.record.Goals as goal
@@ -10,7 +10,7 @@ set_aside-requires-clause-of g c = ap (λ (e : EndView). e.of) (came_back _ _ _ 
 pub returns-in-Some-clause-retries : goal.returns-in-Some-clause-retries
 returns-in-Some-clause-retries g c = rw (← c.self.view_is) (
   c.in-Some.ensures.did.f,
-  alike _ _ (ap (λ (r : RackView _). r.held) c.set_aside.ensures) (ap (λ (r : RackView _). r.set_aside) c.set_aside.ensures) refl refl refl refl refl
+  alike _ _ (ap (λ (r : InFlightView _). r.held) c.set_aside.ensures) (ap (λ (r : InFlightView _). r.set_aside) c.set_aside.ensures) refl refl refl refl refl
       ∙ was_set_aside _ _ _ c.in-Some.finished c.in-Some.ensures.did,
 )
 

@@ -1,7 +1,7 @@
 //! What a worker has in flight.
 ghost use Rattle.std.specs.Prelude.{◌≡◌, ◌<◌, ◌≤◌, ◌↔◌, ◌∷◌, ◌++◌, [], map, IsTrue, IfOk};
 ghost use Rattle.mx_types.specs.Limits.{most_transfers};
-ghost use Rattle.mx_worker_turns.specs.WorkerSteps.{racked};
+ghost use Rattle.mx_worker_turns.specs.WorkerSteps.{in_flight_count};
 
 use crate::engine::{Finished, Held, Right, Tied};
 use crate::queue::Queue;
@@ -14,35 +14,35 @@ use std::mem;
 /// The transfers that a worker holds, in order of claim, and the ends that were refused memory: at most [`MOST_TRANSFERS`] together, all of
 /// one engine. Contracts see both lists, and of which list of ties they are.
 #[derive(Drop)]
-pub(crate) struct Rack<L: Link, C: Right, E: Tied> {
+pub(crate) struct InFlight<L: Link, C: Right, E: Tied> {
     held: Queue<Held<L, C>, E>,
     set_aside: Queue<Finished<C>, E>,
 }
 
-impl<L: Link, C: Right, E: Tied> Model for Rack<L, C, E> {
+impl<L: Link, C: Right, E: Tied> Model for InFlight<L, C, E> {
     ghost use Rattle.std.specs.Prelude.{◌≡◌, ◌+◌, ◌≤◌, length, map};
     ghost use Rattle.mx_types.specs.Limits.{most_transfers};
-    ghost use Rattle.mx_worker_turns.specs.WorkerSteps.{RackView};
+    ghost use Rattle.mx_worker_turns.specs.WorkerSteps.{InFlightView};
 
-    ghost Value = { RackView L };
+    ghost Value = { InFlightView L };
 
     ghost view = { λ r. record { held = map (λ h. h.held) r.held.items; set_aside = map (λ e. e.end) r.set_aside.items; of = r.held.of } };
 
     ghost invariant = { λ r. (length r.held.items + length r.set_aside.items ≤ most_transfers) × (r.set_aside.of ≡ r.held.of) };
 }
 
-impl<L: Link, C: Right, E: Tied> Rack<L, C, E> {
+impl<L: Link, C: Right, E: Tied> InFlight<L, C, E> {
     /// Nothing in flight, and room for as many as there may be.
-    pub fn new(alloc: Global, engine: &E) -> Result<Rack<L, C, E>, OutOfMemory>
-        ensures { IfOk result (λ rack. rack ≡ record { held = []; set_aside = []; of = E.of engine.now }) }
+    pub fn new(alloc: Global, engine: &E) -> Result<InFlight<L, C, E>, OutOfMemory>
+        ensures { IfOk result (λ in_flight. in_flight ≡ record { held = []; set_aside = []; of = E.of engine.now }) }
     {
         let (held, set_aside) = Queue::pair(alloc, engine)?;
-        Ok(Rack { held, set_aside })
+        Ok(InFlight { held, set_aside })
     }
 
     // rule turn-in-flight
     pub fn has_room(&self) -> bool
-        ensures { IsTrue result ↔ (racked self.now < most_transfers) }
+        ensures { IsTrue result ↔ (in_flight_count self.now < most_transfers) }
     {
         self.held.len() + self.set_aside.len() < MOST_TRANSFERS
     }
@@ -67,7 +67,7 @@ impl<L: Link, C: Right, E: Tied> Rack<L, C, E> {
         ensures left { self.new ≡ record self.old { held = [] } }
         ensures given { map (λ h. h.held) spare.new.items ≡ self.old.held }
         ensures of { spare.new.of ≡ self.old.of }
-        ensures fits { racked self.old ≤ most_transfers }
+        ensures fits { in_flight_count self.old ≤ most_transfers }
     {
         mem::swap(&mut self.held, spare);
     }
@@ -79,14 +79,14 @@ impl<L: Link, C: Right, E: Tied> Rack<L, C, E> {
         ensures left { self.new ≡ record self.old { set_aside = [] } }
         ensures given { map (λ e. e.end) spare.new.items ≡ self.old.set_aside }
         ensures of { spare.new.of ≡ self.old.of }
-        ensures fits { racked self.old ≤ most_transfers }
+        ensures fits { in_flight_count self.old ≤ most_transfers }
     {
         mem::swap(&mut self.set_aside, spare);
     }
 
     /// Adds a transfer after the others.
     pub fn hold(&mut self, held: Held<L, C>)
-        requires room { racked self.old < most_transfers }
+        requires room { in_flight_count self.old < most_transfers }
         requires of { held.of ≡ self.old.of }
         ensures { self.new ≡ record self.old { held = self.old.held ++ held.held ∷ [] } }
     {
@@ -95,7 +95,7 @@ impl<L: Link, C: Right, E: Tied> Rack<L, C, E> {
 
     /// Adds an end that was refused memory after the others.
     pub fn set_aside(&mut self, finished: Finished<C>)
-        requires room { racked self.old < most_transfers }
+        requires room { in_flight_count self.old < most_transfers }
         requires of { finished.of ≡ self.old.of }
         ensures { self.new ≡ record self.old { set_aside = self.old.set_aside ++ finished.end ∷ [] } }
     {
