@@ -50,7 +50,7 @@ pub record IsKept (gives : Gives) (host : List ℕ) (answer : HostAnswer) : Type
   pub known : is_known answer ≡ true
   pub code : HasLookupCode answer
 
--- it is kept, or memory was refused and none is
+-- it is kept, or none is, as where memory is refused
 abbrev pub IsNoted : List ℕ → HostAnswer → Option ToldState → Type 0
 IsNoted host answer kept = (kept ≡ Some (record { host = host; answer = answer })) ⊎ (kept ≡ None)
 
@@ -67,7 +67,7 @@ pub data Hears (gives : Gives) (host : List ℕ) (old new : NamedGateState) (ans
   anew : ((t : ToldState) → old.kept ≡ Some t → t.host ≢ host) → IsTold gives host old.gate.latest answer old.asked new.asked
       → Hears gives host old new answer
 
--- The resolver is asked about the host, which can be opened where it has an answer: that is kept, unless memory is refused.
+-- The resolver is asked about the host, which can be opened where it has an answer: that is kept, or none is.
 pub record Asks (gives : Gives) (host : List ℕ) (old new : NamedGateState) (can : Bool) : Type 0 where
   pub answer : HostAnswer
   pub told : IsTold gives host old.gate.latest answer old.asked new.asked
@@ -96,8 +96,10 @@ OpensAt addresses e (answers.Failed failed) old new opened = (opened ≡ Err fai
 OpensAt addresses e answers.NotYet old new (Ok link) = AreAddressesOf e (addresses link) old.found new.found
 OpensAt addresses e answers.NotYet old new (Err code) = new.next_token ≡ old.next_token
 
--- a link is opened, or not, by the resolver's answer on the endpoint's host
+-- A link is opened, or not, by the resolver's answer on the endpoint's host. Then none is kept: what was is spent, so no later link is opened by
+-- it.
 pub record OpensBy (gives : Gives) (e : HostAndPort) {L : Type 0} (addresses : L → List SocketAddr) (old new : NamedGateState) (opened : Result L Code) : Type 0 where
   pub answer : HostAnswer
   pub heard : Hears gives e.host old new answer
   pub opens : OpensAt addresses e answer old.gate new.gate opened
+  pub spent : new.kept ≡ None

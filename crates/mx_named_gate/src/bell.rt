@@ -23,7 +23,7 @@ impl NameBell {
 }
 
 impl Ring for NameBell {
-    /// Ends the wait that is under way, else the next one.
+    /// Ends the wait of its gate that is under way, else the next one, where the system allows it.
     fn ring(&self) {
         // Where the bell can't be rung, its gate waits to the end of its timeout.
         let _ = self.bell.ring();

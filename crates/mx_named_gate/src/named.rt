@@ -62,7 +62,7 @@ impl<L: Lookup> Told<L> {
         }
     }
 
-    // What is known of the host, unless memory is refused.
+    // What is known of the host; none where memory is refused.
     fn of(alloc: Global, host: &str, answer: HostAnswer) -> Option<Told<L>>
         requires { IsKept L.gives host.now answer }
         ensures { IsNoted host.now answer result }
@@ -78,11 +78,11 @@ impl<L: Lookup> Told<L> {
     }
 }
 
-/// A gate that opens TCP connections as a `SocketGate`, and has names looked up by a resolver, so that it waits for none. Contracts see
-/// the gate within, the answer that is kept, what the resolver's table was asked, and all that was said.
+/// A gate that opens TCP connections as a `SocketGate`, and has names looked up by a resolver, so that it is to wait for none. Contracts
+/// see the gate within, the answer that is kept, what the resolver's table was asked, and all that was said.
 ///
 /// Its `now` and `turn` have the bound `Wait` since the other methods of `Gate` need it. They take no lock, but `turn` blocks as that of
-/// the gate within.
+/// the gate within. No clause says how long a call waits.
 pub struct NamedGate<'r, R, L: Lookup> {
     rt: &'r R,
     gate: SocketGate<'r, R>,
@@ -144,9 +144,10 @@ fn listening<R: Net + Clock + AllocGlobal + Wait, L: Lookup>(
 }
 
 impl<'r, R: Net + Clock + AllocGlobal + Wait, L: Lookup> NamedGate<'r, R, L> {
-    /// A gate that opens links as this one, whose names this resolver looks up; it rings the gate's bell where a lookup has ended. Both are
-    /// to have one start: `SocketGate::start` of the gate, and the start that the resolver was made with. The gate starts no thread:
-    /// somebody is to begin the lookups that it wants, by `Resolver::serve`.
+    /// A gate with this one within, which has answered nothing yet. It has its names looked up by this resolver, which is to ring the
+    /// gate's bell where a lookup has ended; no clause says that it is this resolver, or that the bell is rung. Both are to have one
+    /// start: `SocketGate::start` of the gate, and the start that the resolver was made with. The gate starts no thread: somebody is to
+    /// begin the lookups that it wants, by `Resolver::serve`.
     ///
     /// The one error is that memory was refused. It drops the gate, and the resolver may keep the gate's bell, which then wakes nobody.
     pub fn new(
@@ -156,6 +157,7 @@ impl<'r, R: Net + Clock + AllocGlobal + Wait, L: Lookup> NamedGate<'r, R, L> {
     ) -> Result<NamedGate<'r, R, L>, OutOfMemory>
         ensures said { IfOk result (λ named. named.said ≡ []) }
         ensures fresh { IfOk result (λ named. (named.kept ≡ None) × (named.asked ≡ [])) }
+        ensures within { IfOk result (λ named. named.gate ≡ gate.entry) }
     {
         match listening(rt, &gate, resolver) {
             Ok(resolver) => Ok(NamedGate {
@@ -197,7 +199,7 @@ impl<'r, R: Net + Clock + AllocGlobal + Wait, L: Lookup> NamedGate<'r, R, L> {
         }
     }
 
-    // Keeps the resolver's answer on the host.
+    // Keeps the resolver's answer on the host, or none where memory is refused.
     fn keep(&mut self, host: &str, answer: HostAnswer)
         requires { IsKept L.gives host.now answer }
         ensures kept { IsNoted host.now answer self.new.kept }
@@ -207,7 +209,7 @@ impl<'r, R: Net + Clock + AllocGlobal + Wait, L: Lookup> NamedGate<'r, R, L> {
         self.told = Told::of(self.rt.alloc(), host, answer);
     }
 
-    // Asks the resolver about the host, and keeps its answer. True where there is one.
+    // Asks the resolver about the host, and keeps its answer, or none. True where there is one.
     #[tactic(auto, using(crate::proofs::NamedLemmas::is_kept))]
     fn hear(&mut self, host: &str) -> bool
         ensures asks { Asks L.gives host.now self.old self.new result }
@@ -225,7 +227,7 @@ impl<'r, R: Net + Clock + AllocGlobal + Wait, L: Lookup> NamedGate<'r, R, L> {
     }
 
     // rule name-no-second-lookup
-    // Opens a link by the answer on the endpoint's host.
+    // Opens a link by the answer on the endpoint's host. No answer is kept then.
     #[tactic(auto, using(crate::proofs::NamedLemmas::are_told, crate::proofs::NamedLemmas::are_own))]
     fn begin(&mut self, endpoint: &Endpoint) -> Result<SocketLink<'r, R>, Code>
         ensures code { IfErr result (λ code. is_link_code code ≡ true) }
@@ -259,6 +261,8 @@ impl<'r, R: Net + Clock + AllocGlobal + Wait, L: Lookup> Gate for NamedGate<'r, 
     fn now(&mut self) -> u64
         ensures told { result ≡ self.new.gate.latest }
         ensures rises { self.old.gate.latest ≤ self.new.gate.latest }
+        ensures within { self.new.gate.said ≡ self.old.gate.said ++ told result ∷ [] }
+        ensures others { self.new ≡ record self.old { gate = self.new.gate; said = self.new.said } }
         ensures noted { self.new.said ≡ self.old.said ++ told result ∷ [] }
     {
         let now = self.gate.now();
@@ -267,8 +271,8 @@ impl<'r, R: Net + Clock + AllocGlobal + Wait, L: Lookup> Gate for NamedGate<'r, 
     }
 
     /// It can where the resolver has an answer on the host: its addresses, or why it has none. Else a lookup of it is wanted or under way,
-    /// and the resolver rings the bell of the gate where that has ended. No clause says that the bell is rung. It keeps the answer for
-    /// `open`, unless memory is refused.
+    /// and the resolver rings the bell of the gate where that has ended. No clause says that the bell is rung. It keeps the answer for the
+    /// next `open`, in place of one that it kept before, or keeps none, as where memory is refused. No clause says which.
     fn can_open(&mut self, endpoint: &Endpoint) -> bool
         ensures moment { self.new.gate.latest ≡ self.old.gate.latest }
         ensures asks { Asks L.gives endpoint.now.host self.old self.new result }
@@ -281,7 +285,8 @@ impl<'r, R: Net + Clock + AllocGlobal + Wait, L: Lookup> Gate for NamedGate<'r, 
     }
 
     /// Begins to connect to the addresses that the resolver gives for the host, or answers why it has none. It uses the answer that
-    /// `can_open` has kept, and else asks now; where nothing is known yet, and only there, it looks the name up itself, and waits for that.
+    /// `can_open` has kept on that host, and else asks now; where nothing is known yet, and only there, it looks the name up itself, and
+    /// waits for that. The answer that was kept is spent, on whichever host it was: the next link isn't opened by it.
     fn open(&mut self, endpoint: &Endpoint) -> Result<SocketLink<'r, R>, Code>
         ensures fresh { IfOk result (λ link. link.history ≡ []) }
         ensures code { IfErr result (λ code. is_link_code code ≡ true) }
@@ -301,6 +306,8 @@ impl<'r, R: Net + Clock + AllocGlobal + Wait, L: Lookup> Gate for NamedGate<'r, 
     /// As the gate within says.
     fn lacks_files(&mut self) -> bool
         ensures moment { self.new.gate.latest ≡ self.old.gate.latest }
+        ensures within { self.new.gate.said ≡ self.old.gate.said ++ lacked result ∷ [] }
+        ensures others { self.new ≡ record self.old { gate = self.new.gate; said = self.new.said } }
         ensures noted { self.new.said ≡ self.old.said ++ lacked result ∷ [] }
     {
         let lacks = self.gate.lacks_files();
@@ -309,9 +316,11 @@ impl<'r, R: Net + Clock + AllocGlobal + Wait, L: Lookup> Gate for NamedGate<'r, 
     }
 
     /// As the turn of the gate within. Before it the hosts are forgotten on which the resolver has answered: a host without addresses that
-    /// is asked for from then on is looked up again.
+    /// is asked for from then on is to be looked up again. No clause says what is forgotten, but that the answer that is kept isn't.
     fn turn(&mut self, wait_ms: u32) -> Turn
         ensures moment { self.new.gate.latest ≡ self.old.gate.latest }
+        ensures within { self.new.gate.said ≡ self.old.gate.said ++ waited wait_ms (is_stop result) ∷ [] }
+        ensures others { self.new ≡ record self.old { gate = self.new.gate; said = self.new.said } }
         ensures noted { self.new.said ≡ self.old.said ++ waited wait_ms (is_stop result) ∷ [] }
     {
         self.waiting.forget_told();

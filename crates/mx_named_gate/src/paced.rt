@@ -11,9 +11,9 @@ use mx_request::Endpoint;
 use mx_types::{Code, History};
 use std::marker::Model;
 
-/// A gate that opens links as the one within, but at most 4 to an endpoint, until it has waited for 2 milliseconds or 16 have passed by its
-/// clock; then 4 more. Where there are so many it says that none can be opened yet. Endpoints may share what may be opened. Contracts see the
-/// gate within, and all that was said.
+/// A gate that opens links as the one within, but says that one can be opened to an endpoint only where fewer than 4 were, until it has
+/// waited for 2 milliseconds or 16 have passed by its clock; then 4 more. `open` refuses none for that: its caller asks `can_open` first.
+/// Endpoints may share what may be opened. Contracts see the gate within, and all that was said.
 ///
 /// Its answers are those of the gate within, but for the links that it puts off.
 pub struct PacedGate<G> {

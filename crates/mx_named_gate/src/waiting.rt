@@ -10,8 +10,9 @@ struct Wait {
     is_told: bool,
 }
 
-/// The hosts that were asked for and not answered at once. A host that was answered stays until `forget_told`, so that all who wait for it
-/// get the same.
+/// The hosts that were asked for and not answered at once, as far as memory was given for them. A host that was answered stays until
+/// `forget_told`, so that all who wait for it ask since the same moment. No clause speaks of them: by a gate's contract it may ask
+/// since any moment.
 #[derive(Drop)]
 pub(crate) struct Waiting {
     waits: Vec<Wait>,
@@ -31,7 +32,7 @@ impl Waiting {
         Some(wait.since)
     }
 
-    /// Notes that the host is asked for since this moment, unless it is.
+    /// Notes that the host is asked for since this moment, unless it is. An error leaves all as it was.
     pub fn begin(&mut self, alloc: Global, host: &str, now: u64) -> Result<(), OutOfMemory> {
         if self.since(host).is_some() {
             return Ok(());

@@ -9,8 +9,8 @@ returns-in-Ok-clause-addresses g c =
 
 pub returns-in-Ok-clause-by : goal.returns-in-Ok-clause-by
 returns-in-Ok-clause-by g c =
-    record { answer = answers.Known c.in-Known.addresses; heard = search rules; opens = (search rules, search rules) }
+    record { answer = answers.Known c.in-Known.addresses; heard = search rules; opens = (search rules, search rules); spent = search rules }
 
 pub returns-in-Known-clause-by : goal.returns-in-Known-clause-by
 returns-in-Known-clause-by g c =
-    record { answer = answers.Known c.in-Known.addresses; heard = search rules; opens = (search rules, search rules) }
+    record { answer = answers.Known c.in-Known.addresses; heard = search rules; opens = (search rules, search rules); spent = search rules }
