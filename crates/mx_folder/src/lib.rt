@@ -4,14 +4,15 @@
 mod errors;
 mod folders;
 mod limit;
+mod log;
 mod memory;
 mod past;
 mod steps;
 mod system;
 
 pub use crate::errors::FolderError;
-pub use crate::folders::Folder;
-pub use crate::memory::MemoryFolder;
+pub use crate::folders::{Folder, PartFile, Unplaced};
+pub use crate::memory::{MemoryFolder, MemoryPart};
 pub use crate::past::{Past, bytes_of};
 pub use crate::steps::{FolderCall, Kind, Step};
-pub use crate::system::SystemFolder;
+pub use crate::system::{SystemFolder, SystemPart};

@@ -1,42 +1,129 @@
 //! A folder in memory.
-ghost use Rattle.std.specs.Prelude.{◌≡◌, ℕ, ◌<◌, ◌≤◌, List, [], ◌∷◌, ◌++◌, length, take, min, option_map, None, Err, IfOk, OnOk, OnErr};
+ghost use Rattle.std.specs.Prelude.{◌≡◌, ◌<◌, false, [], ◌∷◌, ◌++◌, option_map, IfOk, OnOk, OnErr};
 ghost use Rattle.mx_folder.specs.Files.{file};
-ghost use Rattle.mx_folder.specs.Memory.{step_of, steps_of, none, kind_of, ChangesNone};
+ghost use Rattle.mx_folder.specs.Memory.{step_of, steps_of, none, kept_bytes, kind_of, ChangesNone};
+ghost use Rattle.mx_folder.specs.Parts.{told_of, untold};
 ghost use Rattle.mx_folder.specs.Steps as spec;
+ghost use Rattle.mx_folder.specs.declared.steps.Step.TheVariants as steps;
 
 use crate::errors::FolderError;
-use crate::folders::Folder;
-use crate::past::{Past, bytes_of};
-use crate::steps::{Kind, Step, refused};
+use crate::folders::{Folder, PartFile, Unplaced};
+use crate::log::{Refusals, StepLog};
+use crate::past::{Past, bytes_of, note_all};
+use crate::steps::{FolderCall, Kind, Step, refused};
 use mx_file_name::{FileName, PartName};
-use mx_types::OutOfMemory;
+use mx_types::{History, OutOfMemory};
 use std::alloc::{AllocError, Global};
 use std::marker::Model;
+use std::mem;
 
 // What was done, with its bytes.
 #[derive(Drop)]
 enum Done {
     Created(Vec<u8>),
-    Appended(Vec<u8>, Vec<u8>),
-    Flushed(Vec<u8>),
-    Placed(Vec<u8>, Vec<u8>),
+    // The part, its final name, its bytes, and whether they are flushed.
+    Placed(Vec<u8>, Vec<u8>, Vec<u8>, bool),
     Removed(Vec<u8>),
 }
 
-/// A folder in memory that was empty at first. Contracts see what was done to it, the newest first. It keeps the bytes of each call, and
+// How many calls there were, and which fail.
+#[derive(Clone, Copy)]
+struct Calls {
+    made: u64,
+    fails_at: u64,
+    fails_on: bool,
+    error: FolderError,
+}
+
+impl Calls {
+    // The error of the next call, if it is one that fails.
+    fn next(&mut self) -> Option<FolderError> {
+        let is_refused = self.made == self.fails_at || self.fails_on && self.made > self.fails_at;
+        self.made = self.made.saturating_add(1);
+        is_refused.then_some(self.error)
+    }
+}
+
+/// A part of a folder in memory, which has its bytes. It counts its calls on from those of the folder when that made it, and fails as the
+/// folder does.
+#[derive(Drop)]
+pub struct MemoryPart {
+    name: Vec<u8>,
+    bytes: Vec<u8>,
+    flushed: bool,
+    refused: Refusals,
+    calls: Calls,
+    most: usize,
+}
+
+impl Model for MemoryPart {
+    ghost use Rattle.std.specs.Prelude.{◌<◌};
+    ghost use Rattle.mx_folder.specs.Parts.{PartValue};
+
+    ghost Value = { PartValue };
+
+    ghost view = { λ p. record { name = p.name.items; bytes = p.bytes.items; flushed = p.flushed; refused = p.refused } };
+
+    ghost invariant = { λ p. 0 < p.most };
+}
+
+impl MemoryPart {
+    // Writes these bytes, where no call fails.
+    fn write(&mut self, bytes: &[u8]) -> Result<(), FolderError>
+        ensures written { OnOk result (self.new ≡ record self.old { bytes = self.old.bytes ++ bytes.now; flushed = false }) }
+        ensures same { OnErr result (self.new ≡ self.old) }
+    {
+        if let Some(error) = self.calls.next() {
+            return Err(error);
+        }
+        if self.bytes.extend_from_slice(bytes).is_err() {
+            return Err(FolderError::OutOfMemory);
+        }
+        self.flushed = false;
+        Ok(())
+    }
+}
+
+impl PartFile for MemoryPart {
+    ghost value = { λ part. part };
+
+    fn append(&mut self, bytes: &[u8]) -> Result<usize, FolderError> {
+        let n = bytes.len().min(self.most);
+        match self.write(&bytes[..n]) {
+            Ok(()) => Ok(n),
+            Err(error) => {
+                self.refused.note((FolderCall::Append, error));
+                Err(error)
+            }
+        }
+    }
+
+    fn flush(&mut self) -> Result<(), FolderError> {
+        match self.calls.next() {
+            None => {
+                self.flushed = true;
+                Ok(())
+            }
+            Some(error) => {
+                self.refused.note((FolderCall::Flush, error));
+                Err(error)
+            }
+        }
+    }
+}
+
+/// A folder in memory that was empty at first. Contracts see what was done to it, the newest first. It keeps the bytes of each file, and
 /// replays the calls when it is asked what a name holds: it is for tests.
 ///
 /// A write takes at most so many bytes as it was made with, and the call of the number that it was made with fails, where the first has
-/// number 0; after [`failing_on`](MemoryFolder::failing_on) each later one, too. A call that is refused memory fails with `OutOfMemory`.
+/// number 0; after [`failing_on`](MemoryFolder::failing_on) each later one, too. The calls of a part count; the folder knows of them once it
+/// gets the part back. A call that is refused memory fails with `OutOfMemory`.
 #[derive(Drop)]
 pub struct MemoryFolder {
     alloc: Global,
     done: Vec<Done>,
-    steps: Past<Step>,
-    calls: u64,
-    fails_at: u64,
-    fails_on: bool,
-    error: FolderError,
+    steps: StepLog,
+    calls: Calls,
     most: usize,
 }
 
@@ -57,9 +144,9 @@ impl Model for MemoryFolder {
 }
 
 // rule file-steps
-// The bytes of this name, by what is kept of the calls.
+// The bytes of this name, by what is kept of the calls: none of a part's.
 fn replay(alloc: Global, done: &[Done], name: &[u8]) -> Result<Option<Vec<u8>>, AllocError>
-    ensures { IfOk result (λ held. option_map (λ v. v.items) held ≡ option_map (λ f. f.bytes) (file none (steps_of done.now) name.now)) }
+    ensures { IfOk result (λ held. option_map (λ v. v.items) held ≡ option_map kept_bytes (file none (steps_of done.now) name.now)) }
 {
     let Some((newest, before)) = done.split_last() else {
         return Ok(None);
@@ -71,17 +158,9 @@ fn replay(alloc: Global, done: &[Done], name: &[u8]) -> Result<Option<Vec<u8>>, 
             }
             replay(alloc, before, name)
         }
-        Done::Appended(part, more) => {
-            let held = replay(alloc, before, name)?;
-            if name == part.as_slice() {
-                return with_more(held, more.as_slice());
-            }
-            Ok(held)
-        }
-        Done::Flushed(_) => replay(alloc, before, name),
-        Done::Placed(part, last) => {
+        Done::Placed(part, last, bytes, _) => {
             if name == last.as_slice() {
-                return replay(alloc, before, part.as_slice());
+                return Ok(Some(Vec::from_slice(alloc, bytes.as_slice())?));
             }
             if name == part.as_slice() {
                 return Ok(None);
@@ -97,30 +176,21 @@ fn replay(alloc: Global, done: &[Done], name: &[u8]) -> Result<Option<Vec<u8>>, 
     }
 }
 
-fn with_more(held: Option<Vec<u8>>, more: &[u8]) -> Result<Option<Vec<u8>>, AllocError>
-    ensures { IfOk result (λ longer. option_map (λ v. v.items) longer ≡ option_map (λ v. v.items ++ more.now) held) }
-{
-    match held {
-        None => Ok(None),
-        Some(mut bytes) => {
-            bytes.extend_from_slice(more)?;
-            Ok(Some(bytes))
-        }
-    }
-}
-
 // What a call did, from what is kept of it.
 fn step_of(done: &Done) -> Step
     ensures { result ≡ step_of done.now }
 {
     match done {
         Done::Created(part) => Step::Created(bytes_of(part.as_slice())),
-        Done::Appended(part, more) => {
-            Step::Appended(bytes_of(part.as_slice()), bytes_of(more.as_slice()))
-        }
-        Done::Flushed(part) => Step::Flushed(bytes_of(part.as_slice())),
-        Done::Placed(part, last) => {
-            Step::Placed(bytes_of(part.as_slice()), bytes_of(last.as_slice()))
+        Done::Placed(part, last, bytes, flushed) => {
+            let mut all = History::new();
+            note_all(&mut all, bytes.as_slice());
+            Step::Placed(
+                bytes_of(part.as_slice()),
+                bytes_of(last.as_slice()),
+                all,
+                *flushed,
+            )
         }
         Done::Removed(part) => Step::Removed(bytes_of(part.as_slice())),
     }
@@ -136,11 +206,13 @@ impl MemoryFolder {
         MemoryFolder {
             alloc,
             done: Vec::new(alloc),
-            steps: Past::new(),
-            calls: 0,
-            fails_at,
-            fails_on: false,
-            error,
+            steps: StepLog::new(),
+            calls: Calls {
+                made: 0,
+                fails_at,
+                fails_on: false,
+                error,
+            },
             most,
         }
     }
@@ -149,44 +221,39 @@ impl MemoryFolder {
     pub fn failing_on(self) -> MemoryFolder
         ensures { result ≡ self }
     {
-        MemoryFolder {
+        let calls = Calls {
             fails_on: true,
-            ..self
-        }
+            ..self.calls
+        };
+        MemoryFolder { calls, ..self }
     }
 
-    /// How many calls there were.
+    /// How many calls there were, with those of the parts that it got back.
     pub fn calls(&self) -> u64 {
-        self.calls
+        self.calls.made
     }
 
-    /// The bytes of the file of this name; `None` where there is none.
+    /// The bytes of the file of this name, and none of a part; `None` where nothing has that name.
     ///
     /// Returns `OutOfMemory` where memory for them is refused.
     pub fn held(&self, alloc: Global, name: &str) -> Result<Option<Vec<u8>>, OutOfMemory>
-        ensures { IfOk result (λ held. option_map (λ v. v.items) held ≡ option_map (λ f. f.bytes) (file none self.now name.now)) }
+        ensures { IfOk result (λ held. option_map (λ v. v.items) held ≡ option_map kept_bytes (file none self.now name.now)) }
     {
         Ok(replay(alloc, self.done.as_slice(), name.as_bytes())?)
     }
 
-    // The bytes of a name that nothing has yet.
-    fn vacant(&self, name: &str) -> Result<Vec<u8>, FolderError>
-        ensures { IfOk result (λ bytes. bytes.items ≡ name.now) }
+    // The bytes of a name that nothing has yet, twice.
+    fn vacant(&self, name: &str) -> Result<(Vec<u8>, Vec<u8>), FolderError>
+        ensures { IfOk result (λ names. (names.0.items ≡ name.now) × (names.1.items ≡ name.now)) }
     {
         match self.held(self.alloc, name) {
-            Ok(None) => copied(self.alloc, name),
+            Ok(None) => Ok((
+                copied(self.alloc, name.as_bytes())?,
+                copied(self.alloc, name.as_bytes())?,
+            )),
             Ok(Some(_)) => Err(FolderError::AlreadyThere),
             Err(OutOfMemory) => Err(FolderError::OutOfMemory),
         }
-    }
-
-    // Whether the next call is the one that fails.
-    fn is_refused(&mut self) -> bool
-        ensures { self.new ≡ self.old }
-    {
-        let refused = self.calls == self.fails_at || self.fails_on && self.calls > self.fails_at;
-        self.calls = self.calls.saturating_add(1);
-        refused
     }
 
     fn refuse(&mut self, step: Step, error: FolderError) -> FolderError
@@ -201,8 +268,7 @@ impl MemoryFolder {
         ensures { self.new ≡ spec.done result (step_of next) ∷ self.old }
     {
         let step = step_of(&next);
-        if self.is_refused() {
-            let error = self.error;
+        if let Some(error) = self.calls.next() {
             return Err(self.refuse(step, error));
         }
         if self.done.push(next).is_err() {
@@ -212,13 +278,22 @@ impl MemoryFolder {
         Ok(())
     }
 
+    // Counts the calls of a part that came back, and notes those that were refused.
+    fn take_back(&mut self, part: &mut MemoryPart)
+        ensures told { self.new ≡ told_of part.old ++ self.old }
+        ensures part { part.new ≡ untold part.old }
+    {
+        self.calls.made = self.calls.made.max(part.calls.made);
+        let refused = mem::replace(&mut part.refused, Past::new());
+        self.steps.tell(bytes_of(part.name.as_slice()), refused);
+    }
+
     // A step that changes no file.
     fn pass(&mut self, step: Step) -> Result<(), FolderError>
         requires { ChangesNone step }
         ensures { self.new ≡ spec.done result step ∷ self.old }
     {
-        if self.is_refused() {
-            let error = self.error;
+        if let Some(error) = self.calls.next() {
             return Err(self.refuse(step, error));
         }
         self.steps.note(step);
@@ -226,73 +301,72 @@ impl MemoryFolder {
     }
 }
 
-// The bytes of a name, kept.
-fn copied(alloc: Global, name: &str) -> Result<Vec<u8>, FolderError>
-    ensures { IfOk result (λ bytes. bytes.items ≡ name.now) }
+// These bytes, kept.
+fn copied(alloc: Global, bytes: &[u8]) -> Result<Vec<u8>, FolderError>
+    ensures { IfOk result (λ copy. copy.items ≡ bytes.now) }
 {
-    match Vec::from_slice(alloc, name.as_bytes()) {
-        Ok(bytes) => Ok(bytes),
+    match Vec::from_slice(alloc, bytes) {
+        Ok(copy) => Ok(copy),
         Err(_) => Err(FolderError::OutOfMemory),
     }
 }
 
+// What is kept of a call that gives a part this name.
+fn placing(alloc: Global, part: &MemoryPart, name: &str) -> Result<Done, FolderError>
+    ensures { IfOk result (λ next. step_of next ≡ steps.Placed part.now.name name.now part.now.bytes part.now.flushed) }
+{
+    Ok(Done::Placed(
+        copied(alloc, part.name.as_slice())?,
+        copied(alloc, name.as_bytes())?,
+        copied(alloc, part.bytes.as_slice())?,
+        part.flushed,
+    ))
+}
+
 impl Folder for MemoryFolder {
+    type Part = MemoryPart;
+
     ghost steps = { λ folder. folder };
 
-    fn create(&mut self, part: &PartName) -> Result<(), FolderError> {
-        match self.vacant(part.as_str()) {
-            Ok(part) => self.act(Done::Created(part)),
-            Err(error) => Err(self.refuse(
-                Step::Created(bytes_of(part.as_str().as_bytes())),
-                error,
-            )),
-        }
-    }
-
-    fn append(&mut self, part: &PartName, bytes: &[u8]) -> Result<usize, FolderError> {
-        let n = bytes.len().min(self.most);
-        let (Ok(name), Ok(more)) = (
-            copied(self.alloc, part.as_str()),
-            Vec::from_slice(self.alloc, &bytes[..n]),
-        ) else {
-            let step = Step::Appended(bytes_of(part.as_str().as_bytes()), Past::new());
-            return Err(self.refuse(step, FolderError::OutOfMemory));
+    fn create(&mut self, part: &PartName) -> Result<MemoryPart, FolderError> {
+        let (kept, name) = match self.vacant(part.as_str()) {
+            Ok(names) => names,
+            Err(error) => {
+                let step = Step::Created(bytes_of(part.as_str().as_bytes()));
+                return Err(self.refuse(step, error));
+            }
         };
-        match self.act(Done::Appended(name, more)) {
-            Ok(()) => Ok(n),
-            Err(error) => Err(error),
-        }
+        self.act(Done::Created(kept))?;
+        Ok(MemoryPart {
+            name,
+            bytes: Vec::new(self.alloc),
+            flushed: false,
+            refused: Past::new(),
+            calls: self.calls,
+            most: self.most,
+        })
     }
 
-    fn flush(&mut self, part: &PartName) -> Result<(), FolderError> {
-        match copied(self.alloc, part.as_str()) {
-            Ok(part) => self.act(Done::Flushed(part)),
-            Err(error) => Err(self.refuse(
-                Step::Flushed(bytes_of(part.as_str().as_bytes())),
-                error,
-            )),
-        }
-    }
-
-    fn place(&mut self, part: &PartName, name: &FileName) -> Result<(), FolderError> {
-        let (Ok(from), Ok(to)) = (
-            copied(self.alloc, part.as_str()),
-            copied(self.alloc, name.as_str()),
-        ) else {
-            let step = Step::Placed(bytes_of(part.as_str().as_bytes()), Past::new());
-            return Err(self.refuse(step, FolderError::OutOfMemory));
+    fn place(&mut self, mut part: MemoryPart, name: &FileName) -> Result<(), Unplaced<MemoryPart>> {
+        self.take_back(&mut part);
+        let placed = match placing(self.alloc, &part, name.as_str()) {
+            Ok(next) => self.act(next),
+            Err(error) => {
+                let own = bytes_of(part.name.as_slice());
+                self.steps
+                    .note(Step::Refused(FolderCall::Place, own, error));
+                Err(error)
+            }
         };
-        self.act(Done::Placed(from, to))
+        match placed {
+            Ok(()) => Ok(()),
+            Err(error) => Err(Unplaced { part, error }),
+        }
     }
 
-    fn remove(&mut self, part: &PartName) -> Result<(), FolderError> {
-        match copied(self.alloc, part.as_str()) {
-            Ok(part) => self.act(Done::Removed(part)),
-            Err(error) => Err(self.refuse(
-                Step::Removed(bytes_of(part.as_str().as_bytes())),
-                error,
-            )),
-        }
+    fn remove(&mut self, mut part: MemoryPart) -> Result<(), FolderError> {
+        self.take_back(&mut part);
+        self.act(Done::Removed(part.name))
     }
 
     fn look(&mut self, name: &FileName) -> Result<Kind, FolderError>

@@ -1,5 +1,5 @@
 //! Lists for contracts alone, the newest first.
-ghost use Rattle.std.specs.Prelude.{◌≡◌, [], ◌∷◌};
+ghost use Rattle.std.specs.Prelude.{◌≡◌, [], ◌∷◌, ◌++◌};
 
 use mx_types::History;
 use std::marker::Model;
@@ -33,6 +33,15 @@ impl<T: Drop> Past<T> {
         ensures { self.new ≡ next ∷ self.old }
     {
         self.all.note(next);
+    }
+}
+
+// Adds bytes in their order.
+pub(crate) fn note_all(all: &mut History<u8>, bytes: &[u8])
+    ensures { all.new ≡ all.old ++ bytes.now }
+{
+    for byte in bytes {
+        all.note(*byte);
     }
 }
 

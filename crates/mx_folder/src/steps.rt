@@ -4,29 +4,28 @@ ghost use Rattle.mx_folder.specs.Steps as spec;
 
 use crate::errors::FolderError;
 use crate::past::Past;
+use mx_types::History;
 
 /// What was done to a folder by one call, with names and bytes for contracts alone.
 #[derive(Drop)]
 pub enum Step {
     /// A new empty file under this name.
     Created(Past<u8>),
-    /// These bytes after what the file of this name had.
-    Appended(Past<u8>, Past<u8>),
-    /// All that the file of this name has is on the disk.
-    Flushed(Past<u8>),
-    /// The file of the first name has the second in place of the first, and what the second named is gone.
-    Placed(Past<u8>, Past<u8>),
+    /// The part of the first name has the second in place of the first, and what the second named is gone. It has these bytes, and they are
+    /// all on the disk where that is said.
+    Placed(Past<u8>, Past<u8>, History<u8>, bool),
     /// Nothing is under this name any more.
     Removed(Past<u8>),
     /// What is under this name was looked at, and this was there.
     Looked(Past<u8>, Kind),
     /// The names that the folder has are on the disk.
     FolderFlushed,
-    /// This call, of this name, failed, and changed nothing that a name holds. The flush of a folder has no name.
+    /// This call, of this name, failed, and changed nothing that a name holds. The flush of a folder has no name. A call of a part stands
+    /// here from when its folder gets the part back.
     Refused(FolderCall, Past<u8>, FolderError),
 }
 
-/// What a folder is asked to do.
+/// What a folder, or a part of it, is asked to do.
 #[derive(Clone, Copy, PartialEq, Eq)]
 pub enum FolderCall {
     /// To make a part.
@@ -62,9 +61,7 @@ pub(crate) fn refused(step: Step, error: FolderError) -> Step
 {
     match step {
         Step::Created(part) => Step::Refused(FolderCall::Create, part, error),
-        Step::Appended(part, _) => Step::Refused(FolderCall::Append, part, error),
-        Step::Flushed(part) => Step::Refused(FolderCall::Flush, part, error),
-        Step::Placed(part, _) => Step::Refused(FolderCall::Place, part, error),
+        Step::Placed(part, _, _, _) => Step::Refused(FolderCall::Place, part, error),
         Step::Removed(part) => Step::Refused(FolderCall::Remove, part, error),
         Step::Looked(name, _) => Step::Refused(FolderCall::Look, name, error),
         Step::FolderFlushed => Step::Refused(FolderCall::FlushFolder, Past::new(), error),

@@ -1,18 +1,22 @@
 //! A folder of the system.
-ghost use Rattle.std.specs.Prelude.{◌≡◌, ◌<◌, ◌≤◌, [], length, IfOk};
+ghost use Rattle.std.specs.Prelude.{◌≡◌, ◌<◌, ◌≤◌, [], ◌++◌, length, IfOk};
+ghost use Rattle.mx_folder.specs.Parts.{empty_part, told_of, untold};
+ghost use Rattle.mx_folder.specs.declared.steps.Step.TheVariants as steps;
 
 use crate::errors::FolderError;
-use crate::folders::Folder;
+use crate::folders::{Folder, PartFile, Unplaced};
 use crate::limit::{front, most_bytes};
-use crate::past::{Past, bytes_of};
+use crate::log::{Refusals, StepLog};
+use crate::past::{Past, bytes_of, note_all};
 use crate::steps::{FolderCall, Kind, Step, done, looked};
 use mx_file_name::{FileName, PartName};
+use mx_types::History;
 use std::alloc::Global;
 use std::fs::{File, OpenFile};
 use std::io::{ErrorKind, Write};
 use std::marker::Model;
 use std::rt::Files;
-use std::{fs, io};
+use std::{fs, io, mem};
 
 // As many files as a process, or the system, may have are open: ENFILE and EMFILE of errno(3).
 const TOO_MANY_OPEN: [i32; 2] = [23, 24];
@@ -20,27 +24,41 @@ const TOO_MANY_OPEN: [i32; 2] = [23, 24];
 // The number of errno(3) for a file that would be larger than the limit: EFBIG.
 const FILE_TOO_LARGE: i32 = 27;
 
-/// The part that was made last: its name and its path, its file while that is open, and how many more bytes it may have. With its path at
-/// hand no memory is needed to remove it.
+/// A part of a folder of the system. Contracts see its name, what the system reported to have written and flushed, and what it refused; no
+/// contract can say that the system did so.
 #[derive(Drop)]
-struct LastPart<F> {
+pub struct SystemPart<F> {
     name: String,
+    // At hand, so that no memory is needed to remove it.
     path: String,
+    // `None` once it is closed.
     file: Option<F>,
+    // How many more bytes it may have.
     left: u64,
+    bytes: History<u8>,
+    flushed: bool,
+    refused: Refusals,
 }
 
-/// A folder of the system, one part of which is open at a time. Contracts see what the system reported to have done, the newest first; no
-/// contract can say that the system did so. Nor does a clause say that a call of this folder makes the system call that its step names.
+impl<F> Model for SystemPart<F> {
+    ghost use Rattle.std.specs.String.{string_bytes};
+    ghost use Rattle.mx_folder.specs.Parts.{PartValue};
+
+    ghost Value = { PartValue };
+
+    ghost view = { λ p. record { name = string_bytes p.name; bytes = p.bytes; flushed = p.flushed; refused = p.refused } };
+}
+
+/// A folder of the system. Contracts see what the system reported to have done, the newest first; no contract can say that the system did so.
+/// Nor does a clause say that a call of this folder makes the system call that its step names.
 #[derive(Drop)]
 pub struct SystemFolder<'a, R: Files> {
     alloc: Global,
     files: &'a R,
     path: String,
-    last: Option<LastPart<R::File>>,
     // A descriptor that is closed where a part lacks one.
     spare: Option<R::File>,
-    steps: Past<Step>,
+    steps: StepLog,
 }
 
 impl<'a, R: Files> Model for SystemFolder<'a, R> {
@@ -85,27 +103,24 @@ fn create_part<R: Files>(
     files: &R,
     folder: &str,
     part: &str,
-) -> Result<LastPart<R::File>, FolderError> {
+) -> Result<SystemPart<R::File>, FolderError>
+    ensures { IfOk result (λ made. made ≡ empty_part part.now) }
+{
     let path = path_in(alloc, folder, part)?;
     let Ok(name) = String::from_str(alloc, part) else {
         return Err(FolderError::OutOfMemory);
     };
     match File::create_new(files, path.as_str()) {
-        Ok(file) => Ok(LastPart {
+        Ok(file) => Ok(SystemPart {
             name,
             path,
             file: Some(file),
             left: most_bytes(),
+            bytes: History::new(),
+            flushed: false,
+            refused: Past::new(),
         }),
         Err(error) => Err(reason(error)),
-    }
-}
-
-// This part, if it is the last one.
-fn last_of<'a, F>(last: &'a mut Option<LastPart<F>>, part: &str) -> Option<&'a mut LastPart<F>> {
-    match last.as_mut() {
-        Some(last) if last.name.as_str() == part => Some(last),
-        _ => None,
     }
 }
 
@@ -125,67 +140,78 @@ fn write_some<F: Write>(file: &mut F, bytes: &[u8], left: u64) -> Result<usize, 
     }
 }
 
-fn append_some<F: Write>(
-    last: &mut Option<LastPart<F>>,
-    part: &str,
-    bytes: &[u8],
-) -> Result<usize, FolderError>
-    ensures some { IfOk result (λ n. 0 < n) }
-    ensures within { IfOk result (λ n. n ≤ length bytes.now) }
-{
-    let Some(last) = last_of(last, part) else {
-        return Err(FolderError::NotOpen);
-    };
-    let left = last.left;
-    let Some(file) = last.file.as_mut() else {
-        return Err(FolderError::NotOpen);
-    };
-    let written = write_some(file, bytes, left)?;
-    last.left = left.saturating_sub(written as u64);
-    Ok(written)
+impl<F: Drop> SystemPart<F> {
+    // The step that gives it a final name.
+    fn placed(self, own: Past<u8>, name: Past<u8>) -> Step
+        ensures { result ≡ steps.Placed own name self.bytes self.flushed }
+    {
+        let SystemPart { bytes, flushed, .. } = self;
+        Step::Placed(own, name, bytes, flushed)
+    }
 }
 
-fn flush_part<F: OpenFile>(last: &mut Option<LastPart<F>>, part: &str) -> Result<(), FolderError> {
-    let Some(last) = last_of(last, part) else {
-        return Err(FolderError::NotOpen);
-    };
-    match last.file.as_ref() {
-        Some(file) => file.sync_all().map_err(reason),
-        None => Err(FolderError::NotOpen),
+impl<F: Write + OpenFile> SystemPart<F> {
+    // Writes some of these bytes.
+    fn write(&mut self, bytes: &[u8]) -> Result<usize, FolderError>
+        ensures same { self.new ≡ self.old }
+        ensures some { IfOk result (λ n. 0 < n) }
+        ensures within { IfOk result (λ n. n ≤ length bytes.now) }
+    {
+        let left = self.left;
+        let Some(file) = self.file.as_mut() else {
+            return Err(FolderError::NotOpen);
+        };
+        let written = write_some(file, bytes, left)?;
+        self.left = left.saturating_sub(written as u64);
+        Ok(written)
+    }
+
+    // Flushes what was written.
+    fn sync(&self) -> Result<(), FolderError> {
+        match self.file.as_ref() {
+            Some(file) => file.sync_all().map_err(reason),
+            None => Err(FolderError::NotOpen),
+        }
+    }
+}
+
+impl<F: Write + OpenFile + Drop> PartFile for SystemPart<F> {
+    ghost value = { λ part. part };
+
+    fn append(&mut self, bytes: &[u8]) -> Result<usize, FolderError> {
+        let written = self.write(bytes);
+        match written {
+            Ok(n) => {
+                note_all(&mut self.bytes, &bytes[..n]);
+                self.flushed = false;
+            }
+            Err(error) => self.refused.note((FolderCall::Append, error)),
+        }
+        written
+    }
+
+    fn flush(&mut self) -> Result<(), FolderError> {
+        let flushed = self.sync();
+        match flushed {
+            Ok(()) => self.flushed = true,
+            Err(error) => self.refused.note((FolderCall::Flush, error)),
+        }
+        flushed
     }
 }
 
 // By rename(2), and not link(2), which refuses a name that is taken, and which some file systems don't have.
 // rule file-links-and-folders, unproved: A link under the name is replaced and not followed; a folder under the name makes the call fail
 // (`AlreadyThere`).
-fn place_part<R: Files>(
+fn rename_part<R: Files>(
     alloc: Global,
     files: &R,
     folder: &str,
-    part: &str,
+    path: &str,
     name: &str,
 ) -> Result<(), FolderError> {
-    let from = path_in(alloc, folder, part)?;
     let to = path_in(alloc, folder, name)?;
-    fs::rename(files, from.as_str(), to.as_str()).map_err(reason)
-}
-
-// rule file-no-part-left
-// No memory is needed to remove the part that was made last.
-fn remove_part<R: Files>(
-    alloc: Global,
-    files: &R,
-    folder: &str,
-    last: &mut Option<LastPart<R::File>>,
-    part: &str,
-) -> Result<(), FolderError> {
-    match last_of(last, part) {
-        Some(last) => fs::remove_file(files, last.path.as_str()).map_err(reason),
-        None => {
-            let path = path_in(alloc, folder, part)?;
-            fs::remove_file(files, path.as_str()).map_err(reason)
-        }
-    }
+    fs::rename(files, path, to.as_str()).map_err(reason)
 }
 
 fn kind_at<R: Files>(
@@ -224,23 +250,23 @@ impl<'a, R: Files> SystemFolder<'a, R> {
                 alloc,
                 files,
                 path: owned,
-                last: None,
                 spare: File::open(files, path).ok(),
-                steps: Past::new(),
+                steps: StepLog::new(),
             }),
             Err(error) => Err(reason(error)),
         }
     }
 
-    // Closes the part, if it is open.
-    fn close(&mut self, part: &str)
-        ensures { self.new ≡ self.old }
+    // Closes a part that came back, and notes what was refused to it.
+    fn take_back(&mut self, part: &mut SystemPart<R::File>)
+        ensures told { self.new ≡ told_of part.old ++ self.old }
+        ensures part { part.new ≡ untold part.old }
     {
-        if let Some(last) = last_of(&mut self.last, part) {
-            // The result of the close is lost: std's `File` reports none.
-            last.file = None;
-            self.keep_spare();
-        }
+        // The result of the close is lost: std's `File` reports none.
+        part.file = None;
+        self.keep_spare();
+        let refused = mem::replace(&mut part.refused, Past::new());
+        self.steps.tell(bytes_of(part.name.as_bytes()), refused);
     }
 
     // Opens the spare descriptor, where there is none, if one is free.
@@ -254,8 +280,9 @@ impl<'a, R: Files> SystemFolder<'a, R> {
 
     // rule file-descriptors
     // Makes a part: by the spare descriptor, where too many files are open.
-    fn make(&mut self, part: &str) -> Result<LastPart<R::File>, FolderError>
-        ensures { self.new ≡ self.old }
+    fn make(&mut self, part: &str) -> Result<SystemPart<R::File>, FolderError>
+        ensures same { self.new ≡ self.old }
+        ensures made { IfOk result (λ made. made ≡ empty_part part.now) }
     {
         let made = create_part(self.alloc, self.files, self.path.as_str(), part);
         match made {
@@ -269,63 +296,50 @@ impl<'a, R: Files> SystemFolder<'a, R> {
 }
 
 impl<'a, R: Files> Folder for SystemFolder<'a, R> {
+    type Part = SystemPart<R::File>;
+
     ghost steps = { λ folder. folder };
 
-    fn create(&mut self, part: &PartName) -> Result<(), FolderError> {
+    fn create(&mut self, part: &PartName) -> Result<SystemPart<R::File>, FolderError> {
         let made = self.make(part.as_str());
         self.steps.note(done(&made, Step::Created(bytes_of(part.as_str().as_bytes()))));
-        self.last = Some(made?);
-        Ok(())
+        made
     }
 
-    fn append(&mut self, part: &PartName, bytes: &[u8]) -> Result<usize, FolderError> {
-        let written = append_some(&mut self.last, part.as_str(), bytes);
-        self.steps.note(match written {
-            Ok(n) => Step::Appended(bytes_of(part.as_str().as_bytes()), bytes_of(&bytes[..n])),
-            Err(error) => Step::Refused(
-                FolderCall::Append,
-                bytes_of(part.as_str().as_bytes()),
-                error,
-            ),
-        });
-        written
-    }
-
-    fn flush(&mut self, part: &PartName) -> Result<(), FolderError> {
-        let flushed = flush_part(&mut self.last, part.as_str());
-        self.steps.note(done(&flushed, Step::Flushed(bytes_of(part.as_str().as_bytes()))));
-        flushed
-    }
-
-    fn place(&mut self, part: &PartName, name: &FileName) -> Result<(), FolderError> {
-        self.close(part.as_str());
-        let placed = place_part(
+    fn place(
+        &mut self,
+        mut part: SystemPart<R::File>,
+        name: &FileName,
+    ) -> Result<(), Unplaced<SystemPart<R::File>>> {
+        self.take_back(&mut part);
+        let renamed = rename_part(
             self.alloc,
             self.files,
             self.path.as_str(),
-            part.as_str(),
+            part.path.as_str(),
             name.as_str(),
         );
-        self.steps.note(done(
-            &placed,
-            Step::Placed(
-                bytes_of(part.as_str().as_bytes()),
-                bytes_of(name.as_str().as_bytes()),
-            ),
-        ));
-        placed
+        let own = bytes_of(part.name.as_bytes());
+        match renamed {
+            Ok(()) => {
+                self.steps
+                    .note(part.placed(own, bytes_of(name.as_str().as_bytes())));
+                Ok(())
+            }
+            Err(error) => {
+                self.steps
+                    .note(Step::Refused(FolderCall::Place, own, error));
+                Err(Unplaced { part, error })
+            }
+        }
     }
 
-    fn remove(&mut self, part: &PartName) -> Result<(), FolderError> {
-        self.close(part.as_str());
-        let removed = remove_part(
-            self.alloc,
-            self.files,
-            self.path.as_str(),
-            &mut self.last,
-            part.as_str(),
-        );
-        self.steps.note(done(&removed, Step::Removed(bytes_of(part.as_str().as_bytes()))));
+    // rule file-no-part-left
+    // No memory is needed to remove a part.
+    fn remove(&mut self, mut part: SystemPart<R::File>) -> Result<(), FolderError> {
+        self.take_back(&mut part);
+        let removed = fs::remove_file(self.files, part.path.as_str()).map_err(reason);
+        self.steps.note(done(&removed, Step::Removed(bytes_of(part.name.as_bytes()))));
         removed
     }
 

@@ -3,7 +3,7 @@ use Rattle.std.specs.Prelude.{◌≡◌, ◌⊎◌, ℕ, Bool, true, List, ◌++
 use Rattle.std.specs.List.{Contains}
 use Rattle.mx_chain.specs.Outcomes.{OutcomeValue}
 use Rattle.mx_file_name.specs.Safe.{IsSafeName}
-use Rattle.mx_folder.specs.Files.{File, file}
+use Rattle.mx_folder.specs.Files.{File, holding, file}
 use Rattle.mx_folder.specs.Moments.{AtEachMoment, MayBeLeft}
 use Rattle.mx_folder.specs.declared.steps.Step.{Step}
 use Rattle.mx_save.specs.Bodies.{Holds, content_of}
@@ -31,7 +31,7 @@ pub record IsThere (asking : Asking) (flush : Bool) (now : List Step) (e : EndVa
 abbrev pub HoldsWhole : Bool → List Step → List Step → Type 0
 HoldsWhole flush old moment = (found : List ℕ → Option File) (name : List ℕ) → IsSafeName name
     → (file found moment name ≡ file found old name)
-    ⊎ ((outcome : OutcomeValue) × IsWholeBody outcome × (file found moment name ≡ Some (record { bytes = content_of (parts_of outcome); flushed = flush })))
+    ⊎ ((outcome : OutcomeValue) × IsWholeBody outcome × (file found moment name ≡ Some (holding (content_of (parts_of outcome)) flush)))
 
 -- a loss of power leaves under the name of a file such a body, or what it could have left there before
 abbrev pub MayLeaveWhole : List Step → List Step → Type 0

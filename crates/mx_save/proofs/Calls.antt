@@ -1,20 +1,22 @@
 -- What calls of a folder leave, one after the other.
-use Rattle.std.proofs.Common.{◌≡◌, ℕ, ◌≤◌, ◌<◌, ◌+◌, List, [], ◌∷◌, ◌++◌, take, drop, length, get_or, Result, Ok, Bool, Some, refl, ap, sym, subst, ◌∙◌, arith, append_assoc}
-use Rattle.std.specs.Prelude.{IfOk}
-use Rattle.std.specs.List.{slice_get}
-use Rattle.std.proofs.lemmas.List.{take_more, flat_map_more, length-drop}
-use Rattle.std.proofs.lemmas.Option.{get_or_from_slice_get}
-use Rattle.std.proofs.Math.Seq.{take-add}
+use Rattle.std.proofs.Common.{◌≡◌, ◌≢◌, ℕ, ◌≤◌, ◌<◌, ◌+◌, ◌*◌, length, List, [], ◌∷◌, ◌++◌, Result, Bool, Option, Some, None, refl, ap, sym, subst, ◌∙◌, arith, append_assoc}
+use Rattle.std.proofs.lemmas.List.{length-append}
 use Rattle.mx_file_name.specs.Safe.{IsPartName}
 use Rattle.mx_folder.specs.declared.errors.FolderError.{FolderError}
 use Rattle.mx_folder.specs.declared.steps.FolderCall.{FolderCall}
+use Rattle.mx_folder.specs.declared.steps.FolderCall.TheVariants as call
 use Rattle.mx_folder.specs.declared.steps.Step.{Step}
-use Rattle.mx_folder.specs.declared.steps.Step.TheVariants.{Created, Appended, Flushed, Placed, Removed, Refused}
-use Rattle.mx_folder.specs.Steps.{done, appended, refusals}
+use Rattle.mx_folder.specs.declared.steps.Step.TheVariants.{Created, Placed, Removed, Looked, FolderFlushed, Refused}
+use Rattle.mx_folder.specs.Parts.{PartValue, told, told_of}
+use Rattle.mx_folder.specs.Steps.{done, refusals, refused_calls}
 use Rattle.mx_folder.specs.Moments.{AtEachMoment}
-use Rattle.mx_save.specs.Bodies.{content_of, Holds, Appends, AppendsFront, FilesAreKept, IsOnlyPart, IsBeforeOrAfter}
-use Rattle.mx_save.proofs.Moments.{at_once, join, weaker, one_more}
-use Rattle.mx_save.proofs.Steps.{only_now, only_done, only_appending, only_on, only_created, only_flushed, only_removed, appends_none, appends_more, appends_step, before_or_after_placed, only_is_before, kept_from_only}
+use Rattle.mx_folder.proofs.Told.{calls_told}
+use Rattle.mx_save.specs.Bodies.{FilesAreKept, IsGone, IsOnlyPart, IsBeforeOrAfter, LeavesOnly, left_of}
+use Rattle.mx_save.specs.Tries.{call_of, refusal_of, removal_of, removed_by}
+use Rattle.mx_save.specs.declared.error.SaveError.{SaveError}
+use Rattle.mx_save.specs.declared.error.SaveError.TheVariants as error
+use Rattle.mx_save.proofs.Moments.{at_once, weaker, one_more}
+use Rattle.mx_save.proofs.Steps.{only_now, only_done, only_created, only_removed, before_or_after_placed, only_is_before, kept_from_only, gone_removed, leaves}
 
 abbrev pub PartMoments : List ℕ → List Step → List Step → Type 0
 PartMoments part old new = AtEachMoment (IsOnlyPart part old) old new
@@ -28,81 +30,31 @@ part_step : (part : List ℕ) (old between new : List Step) (step : Step) → Pa
 part_step part old between new step before e f =
     one_more (IsOnlyPart part old) old between new step before e (subst (IsOnlyPart part old) (sym e) (f (at_end (IsOnlyPart part old) old between before)))
 
-pub parts_join : (part : List ℕ) (old between new : List Step) → PartMoments part old between → PartMoments part between new → PartMoments part old new
-parts_join part old between new before after =
-    join (IsOnlyPart part old) (IsOnlyPart part between) old between new before after
-    (λ moment h. only_on part old between moment (at_end (IsOnlyPart part old) old between before) h)
-
-pub part_at_once : (part : List ℕ) (old : List Step) → PartMoments part old old
-part_at_once part old = at_once (IsOnlyPart part old) old (only_now part old)
-
 pub part_created : {T : Type 0} (result : Result T FolderError) (part : List ℕ) (old new : List Step) → new ≡ done result (Created part) ∷ old → PartMoments part old new
 part_created result part old new e =
-    part_step part old old new (done result (Created part)) (part_at_once part old) e (λ h. only_done result (Created part) part old old h (only_created part old old h))
+    part_step part old old new (done result (Created part)) (at_once (IsOnlyPart part old) old (only_now part old)) e
+    (λ h. only_done result (Created part) part old old h (only_created part old old h))
 
-pub part_appended : (result : Result ℕ FolderError) (part bytes : List ℕ) (old between new : List Step) → PartMoments part old between → new ≡ appended result part bytes ∷ between → PartMoments part old new
-part_appended result part bytes old between new before e =
-    part_step part old between new (appended result part bytes) before e (λ h. only_appending result part bytes old between h)
+-- what was refused to a part that came back
+pub part_told : (part name : List ℕ) (calls : List (FolderCall × FolderError)) (old between : List Step) → PartMoments part old between → PartMoments part old (told name calls ++ between)
+part_told part name [] old between before = before
+part_told part name (c ∷ calls) old between before =
+    part_step part old (told name calls ++ between) (told name (c ∷ calls) ++ between) (Refused c.0 name c.1) (part_told part name calls old between before) refl (λ h. h)
 
-pub part_flushed : {T : Type 0} (result : Result T FolderError) (part : List ℕ) (old between new : List Step) → PartMoments part old between → new ≡ done result (Flushed part) ∷ between → PartMoments part old new
-part_flushed result part old between new before e =
-    part_step part old between new (done result (Flushed part)) before e (λ h. only_done result (Flushed part) part old between h (only_flushed part old between h))
+only_removal : (left : Option FolderError) (part : List ℕ) (old between : List Step) → IsOnlyPart part old between → IsOnlyPart part old (removed_by left part ∷ between)
+only_removal None part old between h = only_removed part old between h
+only_removal (Some e) part old between h = h
 
-pub part_removed : {T : Type 0} (result : Result T FolderError) (part : List ℕ) (old new : List Step) → new ≡ done result (Removed part) ∷ old → PartMoments part old new
-part_removed result part old new e =
-    part_step part old old new (done result (Removed part)) (part_at_once part old) e (λ h. only_done result (Removed part) part old old h (only_removed part old old h))
+-- its removal
+pub part_removed : (left : Option FolderError) (part : List ℕ) (v : PartValue) (old between new : List Step) → PartMoments part old between → v.name ≡ part
+    → new ≡ removed_by left v.name ∷ (told_of v ++ between) → PartMoments part old new
+part_removed left part v old between new before is e =
+    part_step part old (told_of v ++ between) new (removed_by left part) (part_told part v.name v.refused old between before)
+    (e ∙ ap (λ n. removed_by left n ∷ (told_of v ++ between)) is) (λ h. only_removal left part old (told_of v ++ between) h)
 
 pub part_refused : (asked : FolderCall) (name : List ℕ) (error : FolderError) (part : List ℕ) (old between new : List Step) → PartMoments part old between
     → new ≡ Refused asked name error ∷ between → PartMoments part old new
 part_refused asked name error part old between new before e = part_step part old between new (Refused asked name error) before e (λ h. h)
-
--- bytes after a prefix of the bytes
-pub front_on : (part bytes rest : List ℕ) (w n : ℕ) (old between new : List Step) → Appends part (take w bytes) old between → new ≡ Appended part (take n rest) ∷ between → rest ≡ drop w bytes
-    → Appends part (take (w + n) bytes) old new
-front_on part bytes rest w n old between new before e at =
-    let more : Appends part (take n rest) between new = subst (Appends part (take n rest) between) (sym e) (appends_step part (take n rest) between) in
-    let all : take w bytes ++ take n rest ≡ take (w + n) bytes = ap (λ r. take w bytes ++ take n r) at ∙ sym (take-add w n bytes) in
-    subst (λ (x : List ℕ). Appends part x old new) all (appends_more part (take w bytes) (take n rest) old between new before more)
-
--- the parts up to the next
-content_more : (parts : List (List ℕ)) (i : ℕ) (bytes : List ℕ) → i < length parts → slice_get parts i ≡ Some bytes
-    → content_of (take i parts) ++ bytes ≡ content_of (take (i + 1) parts)
-content_more parts i bytes small at =
-    let is : get_or parts i bytes ≡ bytes = get_or_from_slice_get parts i bytes bytes at in
-    flat_map_more (λ p. p) [] (take i parts) bytes ∙ ap content_of (ap (λ p. take i parts ++ p ∷ []) (sym is) ∙ sym (take_more parts i bytes small))
-
--- nothing is written, and nothing held
-pub front_none : (part : List ℕ) (steps : List Step) → AppendsFront part [] [] steps steps
-front_none part steps = record { front = []; written = appends_none part steps; is = refl }
-
--- what is held, and no more, is written
-pub front_all : (part bytes held : List ℕ) (old between new : List Step) → AppendsFront part bytes held old between → Appends part held between new → Appends part bytes old new
-front_all part bytes held old between new before more =
-    subst (λ (x : List ℕ). Appends part x old new) (sym before.is) (appends_more part before.front held old between new before.written more)
-
--- a piece after what is held
-front_more : (part bytes held piece next : List ℕ) (old between new : List Step) → AppendsFront part bytes held old between → AppendsFront part (held ++ piece) next between new
-    → AppendsFront part (bytes ++ piece) next old new
-front_more part bytes held piece next old between new before after = record {
-  front = before.front ++ after.front;
-  written = appends_more part before.front after.front old between new before.written after.written;
-  is = ap (λ (t : List ℕ). t ++ piece) before.is ∙ append_assoc before.front held piece ∙ ap (λ (t : List ℕ). before.front ++ t) after.is
-      ∙ sym (append_assoc before.front after.front next);
-}
-
--- a part of the body after what is held of the parts before it
-pub front_part : (part held next : List ℕ) (parts : List (List ℕ)) (i : ℕ) (bytes : List ℕ) (old between new : List Step) → i < length parts → slice_get parts i ≡ Some bytes
-    → AppendsFront part (content_of (take i parts)) held old between → AppendsFront part (held ++ bytes) next between new
-    → AppendsFront part (content_of (take (i + 1) parts)) next old new
-front_part part held next parts i bytes old between new small at before after =
-    subst (λ (x : List ℕ). AppendsFront part x next old new) (content_more parts i bytes small at)
-    (front_more part (content_of (take i parts)) held bytes next old between new before after)
-
--- a part of the body after the parts before it
-pub part_on : (part : List ℕ) (parts : List (List ℕ)) (i : ℕ) (bytes : List ℕ) (old between new : List Step) → i < length parts → slice_get parts i ≡ Some bytes
-    → Appends part (content_of (take i parts)) old between → Appends part bytes between new → Appends part (content_of (take (i + 1) parts)) old new
-part_on part parts i bytes old between new small at before after =
-    subst (λ (x : List ℕ). Appends part x old new) (content_more parts i bytes small at) (appends_more part (content_of (take i parts)) bytes old between new before after)
 
 -- a save that ended before the part had its name
 pub unplaced : (part final body : List ℕ) (flushed : Bool) (old new : List Step) → PartMoments part old new → AtEachMoment (IsBeforeOrAfter part final body flushed old) old new
@@ -113,23 +65,107 @@ pub unplaced_kept : (part : List ℕ) (old new : List Step) → IsPartName part 
 unplaced_kept part old new hidden parts = weaker (FilesAreKept old) (IsOnlyPart part old) old new (λ moment h. kept_from_only part old moment hidden h) parts
 
 -- a save that ended with its name
-pub placed : (part final body : List ℕ) (flushed : Bool) (old between new : List Step) → PartMoments part old between → Holds part body flushed between → new ≡ Placed part final ∷ between
+pub placed : (part final body : List ℕ) (flushed : Bool) (old between new : List Step) → PartMoments part old between → new ≡ Placed part final body flushed ∷ between
     → AtEachMoment (IsBeforeOrAfter part final body flushed old) old new
-placed part final body flushed old between new parts holds e =
-    one_more (IsBeforeOrAfter part final body flushed old) old between new (Placed part final) (unplaced part final body flushed old between parts) e
-    (subst (IsBeforeOrAfter part final body flushed old) (sym e) (before_or_after_placed part final body flushed old between (at_end (IsOnlyPart part old) old between parts) holds))
+placed part final body flushed old between new parts e =
+    one_more (IsBeforeOrAfter part final body flushed old) old between new (Placed part final body flushed) (unplaced part final body flushed old between parts) e
+    (subst (IsBeforeOrAfter part final body flushed old) (sym e)
+    (before_or_after_placed part final body flushed old between (at_end (IsOnlyPart part old) old between parts)))
 
--- a write that took some of what is left
-pub write_on : {n : ℕ} (result : Result ℕ FolderError) (part bytes : List ℕ) (w : ℕ) (rest : List ℕ) (old between new : List Step) → Appends part (take w bytes) old between
-    → new ≡ appended result part rest ∷ between → result ≡ Ok n → rest ≡ drop w bytes → Appends part (take (w + n) bytes) old new
-write_on {n} result part bytes w rest old between new before told is at =
-    front_on part bytes rest w n old between new before (told ∙ ap (λ r. appended r part rest ∷ between) is) at
+-- a part that was removed is gone
+removal_gone : (left : Option FolderError) (part : List ℕ) (between : List Step) → left ≡ None → IsGone part (removed_by left part ∷ between)
+removal_gone None part between is = gone_removed part between
+removal_gone (Some e) part between is = absurd (cc)
 
-pub write_within : {n : ℕ} (result : Result ℕ FolderError) (bytes : List ℕ) (w : ℕ) (rest : List ℕ) → IfOk result (λ m. m ≤ length rest) → result ≡ Ok n → rest ≡ drop w bytes → w ≤ length bytes → w + n ≤ length bytes
-write_within {n} result bytes w rest within is at small =
-    let P : Result ℕ FolderError → Type 0 = λ r. IfOk r (λ m. m ≤ length rest) in
-    let few : n ≤ length rest = subst P is within in
-    omega (arith, few, ap length at, length-drop w bytes)
+pub removed_leaves : (left : Option FolderError) (part : List ℕ) (v : PartValue) (old between new : List Step) → PartMoments part old between → v.name ≡ part
+    → new ≡ removed_by left v.name ∷ (told_of v ++ between) → LeavesOnly (left_of part left) old new
+removed_leaves left part v old between new before is e =
+    let now : new ≡ removed_by left part ∷ (told_of v ++ between) = e ∙ ap (λ n. removed_by left n ∷ (told_of v ++ between)) is in
+    leaves part left old new (at_end (IsOnlyPart part old) old new (part_removed left part v old between new before is e))
+    (λ none. subst (IsGone part) (sym now) (removal_gone left part (told_of v ++ between) none))
 
-pub write_counted : {n : ℕ} (result : Result ℕ FolderError) (part rest : List ℕ) (between new : List Step) → new ≡ appended result part rest ∷ between → result ≡ Ok n → refusals new ≡ refusals between
-write_counted result part rest between new told is = ap refusals (told ∙ ap (λ r. appended r part rest ∷ between) is)
+-- the refused calls of a save
+removal_calls : (left : Option FolderError) (part : List ℕ) (between : List Step) → refused_calls (removed_by left part ∷ between) ≡ removal_of part left ++ refused_calls between
+removal_calls None part between = refl
+removal_calls (Some e) part between = refl
+
+told_refusal : (part : List ℕ) (e : SaveError) → told part (call_of e) ≡ refusal_of part e
+told_refusal part (error.Create w) = refl
+told_refusal part (error.Write w) = refl
+told_refusal part (error.Flush w) = refl
+told_refusal part (error.Place w) = refl
+told_refusal part error.OutOfMemory = refl
+
+-- of one whose part was removed after a call of the part was refused
+pub filling_calls : (e : SaveError) (left : Option FolderError) (part : List ℕ) (v : PartValue) (between new : List Step) → v.name ≡ part → v.refused ≡ call_of e
+    → new ≡ removed_by left v.name ∷ (told_of v ++ between) → refused_calls new ≡ (removal_of part left ++ refusal_of part e) ++ refused_calls between
+filling_calls e left part v between new is calls now =
+    ap refused_calls (now ∙ ap (λ n. removed_by left n ∷ (told n v.refused ++ between)) is ∙ ap (λ c. removed_by left part ∷ (told part c ++ between)) calls)
+    ∙ removal_calls left part (told part (call_of e) ++ between)
+    ∙ ap (λ l. removal_of part left ++ l) (calls_told part (call_of e) between ∙ ap (λ (l : List Step). l ++ refused_calls between) (told_refusal part e))
+    ∙ sym (append_assoc (removal_of part left) (refusal_of part e) (refused_calls between))
+
+-- refusals are the refused calls
+pub refusals_are : (steps : List Step) → refusals steps ≡ length (refused_calls steps)
+refusals_are [] = refl
+refusals_are (Created p ∷ steps) = refusals_are steps
+refusals_are (Placed p n b f ∷ steps) = refusals_are steps
+refusals_are (Removed p ∷ steps) = refusals_are steps
+refusals_are (Looked n k ∷ steps) = refusals_are steps
+refusals_are (FolderFlushed ∷ steps) = refusals_are steps
+refusals_are (Refused c n e ∷ steps) = omega (arith, refusals_are steps)
+
+one_refusal : (part : List ℕ) (e : SaveError) → e ≢ error.OutOfMemory → length (refusal_of part e) ≡ 1
+one_refusal part (error.Create w) known = refl
+one_refusal part (error.Write w) known = refl
+one_refusal part (error.Flush w) known = refl
+one_refusal part (error.Place w) known = refl
+one_refusal part error.OutOfMemory known = absurd (known refl)
+
+removal_length : (part : List ℕ) (left : Option FolderError) → (length (removal_of part left) ≡ length (left_of part left)) × (length (left_of part left) ≤ 1)
+removal_length part None = (refl, omega arith)
+removal_length part (Some e) = (refl, omega arith)
+
+counts : (part : List ℕ) (e : SaveError) (left : Option FolderError) (old new : List Step) → e ≢ error.OutOfMemory
+    → refused_calls new ≡ (removal_of part left ++ refusal_of part e) ++ refused_calls old → refusals new ≡ refusals old + length (left_of part left) + 1
+counts part e left old new known calls =
+    omega (
+      arith,
+      refusals_are old,
+      refusals_are new,
+      ap length calls,
+      length-append (removal_of part left ++ refusal_of part e) (refused_calls old),
+      length-append (removal_of part left) (refusal_of part e),
+      one_refusal part e known,
+      (removal_length part left).0,
+    )
+
+pub refusals_grow : (part : List ℕ) (e : SaveError) (left : Option FolderError) (old new : List Step) → e ≢ error.OutOfMemory
+    → refused_calls new ≡ (removal_of part left ++ refusal_of part e) ++ refused_calls old → refusals old < refusals new
+refusals_grow part e left old new known calls = omega (arith, counts part e left old new known calls)
+
+pub refused_twice : (part : List ℕ) (e : SaveError) (left : Option FolderError) (old new : List Step) → e ≢ error.OutOfMemory
+    → refused_calls new ≡ (removal_of part left ++ refusal_of part e) ++ refused_calls old → refusals old + 2 * length (left_of part left) ≤ refusals new
+refused_twice part e left old new known calls = omega (arith, counts part e left old new known calls, (removal_length part left).1)
+
+pub same_refusals : (old new : List Step) → refused_calls new ≡ refused_calls old → refusals new ≡ refusals old
+same_refusals old new calls = omega (arith, refusals_are old, refusals_are new, ap length calls)
+
+-- of one whose part was removed after it couldn't get its name
+pub placing_calls : (w : FolderError) (left : Option FolderError) (part : List ℕ) (v u : PartValue) (between refused new : List Step) → v.name ≡ part → v.refused ≡ [] → u.name ≡ part
+    → u.refused ≡ [] → refused ≡ Refused call.Place v.name w ∷ (told_of v ++ between) → new ≡ removed_by left u.name ∷ (told_of u ++ refused)
+    → refused_calls new ≡ (removal_of part left ++ refusal_of part (error.Place w)) ++ refused_calls between
+placing_calls w left part v u between refused new v_is v_none u_is u_none first last =
+    let before : refused_calls refused ≡ Refused call.Place part w ∷ refused_calls between =
+    ap refused_calls (first ∙ ap (λ n. Refused call.Place n w ∷ (told n v.refused ++ between)) v_is ∙ ap (λ c. Refused call.Place part w ∷ (told part c ++ between)) v_none) in
+    ap refused_calls (last ∙ ap (λ n. removed_by left n ∷ (told n u.refused ++ refused)) u_is ∙ ap (λ c. removed_by left part ∷ (told part c ++ refused)) u_none)
+    ∙ removal_calls left part refused
+    ∙ ap (λ l. removal_of part left ++ l) before
+    ∙ sym (append_assoc (removal_of part left) (refusal_of part (error.Place w)) (refused_calls between))
+
+-- a part that has its name
+pub placed_is : (part final content : List ℕ) (flush : Bool) (v : PartValue) (between new : List Step) → v.name ≡ part → v.bytes ≡ content → v.flushed ≡ flush → v.refused ≡ []
+    → new ≡ Placed v.name final v.bytes v.flushed ∷ (told_of v ++ between) → new ≡ Placed part final content flush ∷ between
+placed_is part final content flush v between new named bytes flushed none now =
+    now ∙ ap (λ n. Placed n final v.bytes v.flushed ∷ (told n v.refused ++ between)) named ∙ ap (λ c. Placed part final v.bytes v.flushed ∷ (told part c ++ between)) none
+    ∙ ap (λ b. Placed part final b v.flushed ∷ between) bytes ∙ ap (λ f. Placed part final content f ∷ between) flushed

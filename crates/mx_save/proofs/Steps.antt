@@ -1,19 +1,17 @@
 -- What single steps leave.
-use Rattle.std.proofs.Common.{◌≡◌, ◌≢◌, ℕ, ◌≤◌, Bool, true, false, cond, List, [], ◌∷◌, ◌++◌, take, get_or, Option, Some, None, option_map, Result, Ok, Err, refl, ap, sym, ◌∙◌, arith, append_assoc, inl, inr}
+use Rattle.std.proofs.Common.{◌≡◌, ◌≢◌, ℕ, ◌≤◌, Bool, true, false, cond, List, [], ◌∷◌, get_or, Option, Some, None, Result, Ok, Err, refl, ap, sym, ◌∙◌, arith, inl, inr}
 use Rattle.std.specs.Prelude.{◌⊎◌}
-use Rattle.std.specs.List.{Contains}
 use Rattle.std.specs.Str.{bytes_eq}
 use Rattle.std.proofs.lemmas.Bool.{cond-true, cond-false, false_from_ne_true, cases_Bool}
-use Rattle.std.proofs.lemmas.List.{append-nil}
 use Rattle.std.proofs.lemmas.Slice.Eq.{bytes_eq-Decides}
 use Rattle.mx_file_name.specs.Safe.{IsSafeName, IsPartName}
 use Rattle.mx_folder.specs.declared.errors.FolderError.{FolderError}
 use Rattle.mx_folder.specs.declared.steps.FolderCall.{FolderCall}
 use Rattle.mx_folder.specs.declared.steps.Step.{Step}
-use Rattle.mx_folder.specs.declared.steps.Step.TheVariants.{Created, Appended, Flushed, Placed, Removed, Refused}
-use Rattle.mx_folder.specs.Steps.{done, appended, refusals}
-use Rattle.mx_folder.specs.Files.{File, file, with_more, on_disk}
-use Rattle.mx_save.specs.Bodies.{Holds, Appends, Flushes, FilesAreKept, IsGone, IsOnlyPart, IsBeforeOrAfter, LeavesOnly, left_of}
+use Rattle.mx_folder.specs.declared.steps.Step.TheVariants.{Created, Placed, Removed, Refused}
+use Rattle.mx_folder.specs.Steps.{done, refusals}
+use Rattle.mx_folder.specs.Files.{File, holding, file}
+use Rattle.mx_save.specs.Bodies.{Holds, FilesAreKept, IsGone, IsOnlyPart, IsBeforeOrAfter, LeavesOnly, left_of}
 
 pub same_name : (name : List ℕ) → bytes_eq name name ≡ true
 same_name name = (bytes_eq-Decides name name).1 refl
@@ -32,12 +30,6 @@ only_now part old found name differ = refl
 pub only_created : (part : List ℕ) (old between : List Step) → IsOnlyPart part old between → IsOnlyPart part old (Created part ∷ between)
 only_created part old between h found name differ = cond-false (bytes_eq name part) _ (file found between name) (other_name name part differ) ∙ h found name differ
 
-pub only_appended : (part more : List ℕ) (old between : List Step) → IsOnlyPart part old between → IsOnlyPart part old (Appended part more ∷ between)
-only_appended part more old between h found name differ = cond-false (bytes_eq name part) _ (file found between name) (other_name name part differ) ∙ h found name differ
-
-pub only_flushed : (part : List ℕ) (old between : List Step) → IsOnlyPart part old between → IsOnlyPart part old (Flushed part ∷ between)
-only_flushed part old between h found name differ = cond-false (bytes_eq name part) _ (file found between name) (other_name name part differ) ∙ h found name differ
-
 pub only_removed : (part : List ℕ) (old between : List Step) → IsOnlyPart part old between → IsOnlyPart part old (Removed part ∷ between)
 only_removed part old between h found name differ = cond-false (bytes_eq name part) _ (file found between name) (other_name name part differ) ∙ h found name differ
 
@@ -45,10 +37,6 @@ only_removed part old between h found name differ = cond-false (bytes_eq name pa
 pub only_done : {T : Type 0} (result : Result T FolderError) (step : Step) (part : List ℕ) (old between : List Step) → IsOnlyPart part old between → IsOnlyPart part old (step ∷ between) → IsOnlyPart part old (done result step ∷ between)
 only_done (Ok x) step part old between h g = g
 only_done (Err e) step part old between h g = h
-
-pub only_appending : (result : Result ℕ FolderError) (part bytes : List ℕ) (old between : List Step) → IsOnlyPart part old between → IsOnlyPart part old (appended result part bytes ∷ between)
-only_appending (Ok n) part bytes old between h = only_appended part (take n bytes) old between h
-only_appending (Err e) part bytes old between h = h
 
 -- only the part, and then only the part
 pub only_on : (part : List ℕ) (old between moment : List Step) → IsOnlyPart part old between → IsOnlyPart part between moment → IsOnlyPart part old moment
@@ -59,42 +47,18 @@ pub done_grows : {T : Type 0} (result : Result T FolderError) (step : Step) (ste
 done_grows (Ok x) step steps h = h
 done_grows (Err e) step steps h = omega arith
 
--- the bytes of a part
-pub holds_created : (part : List ℕ) (old : List Step) → Holds part [] false (Created part ∷ old)
-holds_created part old found = cond-true (bytes_eq part part) (Some (record { bytes = []; flushed = false })) (file found old part) (same_name part)
-
-pub appends_none : (part : List ℕ) (old : List Step) → Appends part [] old old
-appends_none part old bytes h found = h found ∙ ap (λ b. Some (record { bytes = b; flushed = false })) (sym (append-nil bytes))
-
-pub appends_more : (part x y : List ℕ) (old between new : List Step) → Appends part x old between → Appends part y between new → Appends part (x ++ y) old new
-appends_more part x y old between new f g bytes h found =
-    g (bytes ++ x) (f bytes h) found ∙ ap (λ b. Some (record { bytes = b; flushed = false })) (append_assoc bytes x y)
-
-pub appends_step : (part more : List ℕ) (old : List Step) → Appends part more old (Appended part more ∷ old)
-appends_step part more old bytes h found =
-    cond-true (bytes_eq part part) (option_map (with_more more) (file found old part)) (file found old part) (same_name part)
-    ∙ ap (option_map (with_more more)) (h found)
-
-pub flushes_step : (part : List ℕ) (old : List Step) → Flushes part true old (Flushed part ∷ old)
-flushes_step part old bytes h found =
-    cond-true (bytes_eq part part) (option_map on_disk (file found old part)) (file found old part) (same_name part)
-    ∙ ap (option_map on_disk) (h found)
-
-pub flushes_none : (part : List ℕ) (old : List Step) → Flushes part false old old
-flushes_none part old bytes h = h
-
 -- a part gets its name
-pub holds_placed : (part final bytes : List ℕ) (flushed : Bool) (old : List Step) → Holds part bytes flushed old → Holds final bytes flushed (Placed part final ∷ old)
-holds_placed part final bytes flushed old h found = cond-true (bytes_eq final final) (file found old part) _ (same_name final) ∙ h found
+pub holds_placed : (part final bytes : List ℕ) (flushed : Bool) (old : List Step) → Holds final bytes flushed (Placed part final bytes flushed ∷ old)
+holds_placed part final bytes flushed old found = cond-true (bytes_eq final final) (Some (holding bytes flushed)) _ (same_name final)
 
-pub before_or_after_placed : (part final body : List ℕ) (flushed : Bool) (old between : List Step) → IsOnlyPart part old between → Holds part body flushed between
-    → IsBeforeOrAfter part final body flushed old (Placed part final ∷ between)
-before_or_after_placed part final body flushed old between only holds found name differ =
+pub before_or_after_placed : (part final body : List ℕ) (flushed : Bool) (old between : List Step) → IsOnlyPart part old between
+    → IsBeforeOrAfter part final body flushed old (Placed part final body flushed ∷ between)
+before_or_after_placed part final body flushed old between only found name differ =
     let other : file found between name ≡ file found old name = only found name differ in
-    let here = file found between part in
+    let here = Some (holding body flushed) in
     let there = cond (bytes_eq name part) None (file found between name) in
     elim (cases_Bool (bytes_eq name final)) [
-      | inl is ↦ inr ((bytes_eq-Decides name final).0 is, cond-true (bytes_eq name final) here there is ∙ holds found)
+      | inl is ↦ inr ((bytes_eq-Decides name final).0 is, cond-true (bytes_eq name final) here there is)
       | inr not ↦ inl (cond-false (bytes_eq name final) here there not ∙ cond-false (bytes_eq name part) None (file found between name) (other_name name part differ) ∙ other)
     ]
 
@@ -130,14 +94,15 @@ leaves part (Some why) old new only gone found name hidden =
       | inr differ ↦ inl (only found name differ)
     ]
 
-placed_away : (part final : List ℕ) (between : List Step) (found : List ℕ → Option File) (name : List ℕ) → name ≢ final
-    → file found (Placed part final ∷ between) name ≡ cond (bytes_eq name part) None (file found between name)
-placed_away part final between found name differ = cond-false (bytes_eq name final) (file found between part) _ (other_name name final differ)
+placed_away : (part final body : List ℕ) (flushed : Bool) (between : List Step) (found : List ℕ → Option File) (name : List ℕ) → name ≢ final
+    → file found (Placed part final body flushed ∷ between) name ≡ cond (bytes_eq name part) None (file found between name)
+placed_away part final body flushed between found name differ = cond-false (bytes_eq name final) (Some (holding body flushed)) _ (other_name name final differ)
 
-pub none_left_placed : (part final : List ℕ) (old between new : List Step) → IsSafeName final → IsOnlyPart part old between → new ≡ Placed part final ∷ between → LeavesOnly [] old new
-none_left_placed part final old between new safe only e found name hidden =
+pub none_left_placed : (part final body : List ℕ) (flushed : Bool) (old between new : List Step) → IsSafeName final → IsOnlyPart part old between
+    → new ≡ Placed part final body flushed ∷ between → LeavesOnly [] old new
+none_left_placed part final body flushed old between new safe only e found name hidden =
     let now : file found new name ≡ cond (bytes_eq name part) None (file found between name) =
-    ap (λ l. file found l name) e ∙ placed_away part final between found name (λ same. not_part final name safe hidden (sym same)) in
+    ap (λ l. file found l name) e ∙ placed_away part final body flushed between found name (λ same. not_part final name safe hidden (sym same)) in
     elim (name_cases name part) [
       | inl is ↦ inr (inl (now ∙ cond-true (bytes_eq name part) None (file found between name) ((bytes_eq-Decides name part).1 is)))
       | inr differ ↦ inl (now ∙ cond-false (bytes_eq name part) None (file found between name) (other_name name part differ) ∙ only found name differ)

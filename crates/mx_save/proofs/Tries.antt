@@ -2,7 +2,7 @@
 use Rattle.std.proofs.Common.{◌≡◌, ℕ, suc, ◌<◌, true, List, [], ◌∷◌, ◌++◌, Option, Some, None, Result, Ok, Err, refl, ap, ◌∙◌}
 use Rattle.std.specs.Prelude.{IfErr}
 use Rattle.mx_file_name.specs.Names.{part_of}
-use Rattle.mx_folder.specs.Steps.{appended, refused_calls}
+use Rattle.mx_folder.specs.Steps.{refused_calls}
 use Rattle.mx_folder.specs.declared.errors.FolderError.{FolderError}
 use Rattle.mx_folder.specs.declared.errors.FolderError.TheVariants as why
 use Rattle.mx_folder.specs.declared.steps.FolderCall.TheVariants as call
@@ -13,12 +13,7 @@ use Rattle.mx_save.specs.declared.error.SaveError.TheVariants as error
 use Rattle.mx_save.specs.Ledgers.{LedgerValue, is_taken, is_there, most_parts}
 use Rattle.mx_save.specs.Tries.{AreTried, IsRefusedBy, IsRefusedOnce, IsSavedBy, next_number, number_after, refusal_of, removal_of, taken_parts}
 
--- a write that took some
-pub write_calls : {n : ℕ} (result : Result ℕ FolderError) (part rest : List ℕ) (between new : List Step) → new ≡ appended result part rest ∷ between → result ≡ Ok n
-    → refused_calls new ≡ refused_calls between
-write_calls result part rest between new told is = ap refused_calls (told ∙ ap (λ r. appended r part rest ∷ between) is)
-
--- the same, in a ledger
+-- refused calls, in a ledger
 pub calls_on : (told now old also : List Step) → now ≡ told ++ old → old ≡ also → now ≡ told ++ also
 calls_on told now old also is same = is ∙ ap (λ l. told ++ l) same
 

@@ -3,7 +3,8 @@ use Rattle.std.specs.Prelude.{◌≡◌, ◌≢◌, ◌⊎◌, ℕ, Bool, false,
 use Rattle.std.specs.List.{Contains}
 use Rattle.mx_folder.specs.declared.errors.FolderError.{FolderError}
 use Rattle.mx_folder.specs.declared.steps.Step.{Step}
-use Rattle.mx_folder.specs.Files.{File, file}
+use Rattle.mx_folder.specs.Files.{File, holding, file}
+use Rattle.mx_folder.specs.Parts.{PartValue}
 use Rattle.mx_file_name.specs.Safe.{IsSafeName, IsPartName}
 
 -- the bytes of a body, from its parts
@@ -12,21 +13,23 @@ content_of parts = flat_map (λ part. part) parts
 
 -- under this name is a file with these bytes and no others, which are all on the disk or aren't known to be
 abbrev pub Holds : List ℕ → List ℕ → Bool → List Step → Type 0
-Holds name bytes flushed moment = (found : List ℕ → Option File) → file found moment name ≡ Some (record { bytes = bytes; flushed = flushed })
+Holds name bytes flushed moment = (found : List ℕ → Option File) → file found moment name ≡ Some (holding bytes flushed)
 
--- from old to new these bytes were added to what the file of this name had
-abbrev pub Appends : List ℕ → List ℕ → List Step → List Step → Type 0
-Appends name more old new = (bytes : List ℕ) → Holds name bytes false old → Holds name (bytes ++ more) false new
+-- Private: from old to new these bytes were added to what the part had
+pub record Appends (more : List ℕ) (old new : PartValue) : Type 0 where
+  pub bytes : new.bytes ≡ old.bytes ++ more
+  pub unflushed : old.flushed ≡ false → new.flushed ≡ false
 
--- Private: from old to new a prefix of these bytes was added to what the file of this name had, and their rest is held.
-pub record AppendsFront (name more held : List ℕ) (old new : List Step) : Type 0 where
+-- Private: from old to new a prefix of these bytes was added to what the part had, and their rest is held.
+pub record AppendsFront (more held : List ℕ) (old new : PartValue) : Type 0 where
   pub front : List ℕ
-  pub written : Appends name front old new
+  pub written : Appends front old new
   pub is : more ≡ front ++ held
 
--- what the file of this name had is on the disk now, where that was asked for
-abbrev pub Flushes : List ℕ → Bool → List Step → List Step → Type 0
-Flushes name flushed old new = (bytes : List ℕ) → Holds name bytes false old → Holds name bytes flushed new
+-- Private: the part has these bytes, which are on the disk where that was asked for
+pub record IsFilled (bytes : List ℕ) (flushed : Bool) (part : PartValue) : Type 0 where
+  pub bytes_are : part.bytes ≡ bytes
+  pub flushed_is : part.flushed ≡ flushed
 
 -- each name but that of the part holds what it held
 abbrev pub IsOnlyPart : List ℕ → List Step → List Step → Type 0
@@ -59,4 +62,4 @@ FilesAreKept old new = (found : List ℕ → Option File) (name : List ℕ) → 
 -- each name but that of the part holds what it held, or it is this one and holds this body, whole
 abbrev pub IsBeforeOrAfter : List ℕ → List ℕ → List ℕ → Bool → List Step → List Step → Type 0
 IsBeforeOrAfter part final body flushed old moment = (found : List ℕ → Option File) (name : List ℕ) → name ≢ part
-    → (file found moment name ≡ file found old name) ⊎ ((name ≡ final) × (file found moment name ≡ Some (record { bytes = body; flushed = flushed })))
+    → (file found moment name ≡ file found old name) ⊎ ((name ≡ final) × (file found moment name ≡ Some (holding body flushed)))

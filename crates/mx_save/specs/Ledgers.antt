@@ -6,7 +6,7 @@ use Rattle.mx_file_name.specs.Laws.{AreDistinct}
 use Rattle.mx_folder.specs.declared.errors.FolderError.{FolderError}
 use Rattle.mx_folder.specs.declared.errors.FolderError.TheVariants as why
 use Rattle.mx_folder.specs.declared.steps.Step.{Step}
-use Rattle.mx_folder.specs.Files.{File, file}
+use Rattle.mx_folder.specs.Files.{File, holding, file}
 use Rattle.mx_folder.specs.Moments.{AtEachMoment}
 use Rattle.mx_folder.specs.Steps.{refusals}
 use Rattle.mx_save.specs.declared.error.SaveError.{SaveError}
@@ -29,7 +29,7 @@ pub record LedgerValue (B : Type 0) : Type 0 where
 abbrev pub HasOnly : {B : Type 0} → (B → List (List ℕ)) → Bool → List (List ℕ × B) → List Step → List Step → Type 0
 HasOnly {B} parts flushed entries old moment = (found : List ℕ → Option File) (name : List ℕ) → IsSafeName name
     → (file found moment name ≡ file found old name)
-    ⊎ ((body : B) × Contains entries (name, body) × (file found moment name ≡ Some (record { bytes = content_of (parts body); flushed = flushed })))
+    ⊎ ((body : B) × Contains entries (name, body) × (file found moment name ≡ Some (holding (content_of (parts body)) flushed)))
 
 -- each name holds its body
 abbrev pub AllHold : {B : Type 0} → (B → List (List ℕ)) → Bool → List (List ℕ × B) → List Step → Type 0

@@ -4,9 +4,10 @@ use Rattle.mx_file_name.specs.Names.{part_of}
 use Rattle.mx_folder.specs.Steps.{refused_calls}
 use Rattle.mx_folder.specs.declared.errors.FolderError.{FolderError}
 use Rattle.mx_folder.specs.declared.errors.FolderError.TheVariants as why
+use Rattle.mx_folder.specs.declared.steps.FolderCall.{FolderCall}
 use Rattle.mx_folder.specs.declared.steps.FolderCall.TheVariants as call
 use Rattle.mx_folder.specs.declared.steps.Step.{Step}
-use Rattle.mx_folder.specs.declared.steps.Step.TheVariants.{Refused}
+use Rattle.mx_folder.specs.declared.steps.Step.TheVariants.{Removed, Refused}
 use Rattle.mx_save.specs.declared.error.SaveError.{SaveError}
 use Rattle.mx_save.specs.declared.error.SaveError.TheVariants as error
 use Rattle.mx_save.specs.Ledgers.{LedgerValue, most_parts}
@@ -24,10 +25,23 @@ abbrev pub removal_of : List ℕ → Option FolderError → List Step
 removal_of part None = []
 removal_of part (Some e) = Refused call.Remove part e ∷ []
 
+-- Private: the same call, without the part
+abbrev pub call_of : SaveError → List (FolderCall × FolderError)
+call_of (error.Create e) = (call.Create, e) ∷ []
+call_of (error.Write e) = (call.Append, e) ∷ []
+call_of (error.Flush e) = (call.Flush, e) ∷ []
+call_of (error.Place e) = (call.Place, e) ∷ []
+call_of error.OutOfMemory = []
+
 -- Private: all that was refused while the part was filled
-abbrev pub refused_filling : {T : Type 0} → List ℕ → Result T SaveError → List Step
-refused_filling part (Ok _) = []
-refused_filling part (Err e) = refusal_of part e
+abbrev pub refused_filling : {T : Type 0} → Result T SaveError → List (FolderCall × FolderError)
+refused_filling (Ok _) = []
+refused_filling (Err e) = call_of e
+
+-- Private: what the removal of a part did, by the answer
+abbrev pub removed_by : Option FolderError → List ℕ → Step
+removed_by None part = Removed part
+removed_by (Some e) part = Refused call.Remove part e
 
 -- the number after this one, and that after so many
 abbrev pub next_number : ℕ → ℕ

@@ -128,9 +128,7 @@ name_told asking urls place name (Some n) may is = subst (IsNameAt asking urls p
 -- what was done to a folder later
 refusals_step : (step : Step) (old : List Step) → refusals old ≤ refusals (step ∷ old)
 refusals_step (steps.Created part) old = omega arith
-refusals_step (steps.Appended part more) old = omega arith
-refusals_step (steps.Flushed part) old = omega arith
-refusals_step (steps.Placed part final) old = omega arith
+refusals_step (steps.Placed part final bytes flushed) old = omega arith
 refusals_step (steps.Removed part) old = omega arith
 refusals_step (steps.Looked name found) old = omega arith
 refusals_step steps.FolderFlushed old = omega arith

@@ -34,9 +34,7 @@ calls_told old new why (Some part) left by =
 
 one_later : (step : Step) (old : List Step) (s : Step) → Contains (refused_calls old) s → Contains (refused_calls (step ∷ old)) s
 one_later (steps.Created part) old s c = c
-one_later (steps.Appended part more) old s c = c
-one_later (steps.Flushed part) old s c = c
-one_later (steps.Placed part final) old s c = c
+one_later (steps.Placed part final bytes flushed) old s c = c
 one_later (steps.Removed part) old s c = c
 one_later (steps.Looked name found) old s c = c
 one_later steps.FolderFlushed old s c = c

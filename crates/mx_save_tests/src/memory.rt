@@ -390,7 +390,7 @@ static TAKEN: [Taken; 3] = [
 fn add_part(alloc: Global, folder: &mut MemoryFolder, number: u32) -> Result<(), OutOfMemory> {
     let part = part_name(alloc, 42, u64::from(number))?;
     match folder.create(&part) {
-        Ok(()) => Ok(()),
+        Ok(_) => Ok(()),
         Err(_) => Err(OutOfMemory),
     }
 }
@@ -426,7 +426,7 @@ fn save_beside(
     (one, two, ledger.finish().0)
 }
 
-// Whether the first of two saves goes well where so many names of parts are taken, and the last of these still has no byte; and whether the
+// Whether the first of two saves goes well where so many names of parts are taken, and the last of these still is there; and whether the
 // second takes the number behind that of the first, and says what its row says.
 fn is_beside(
     alloc: Global,

@@ -2,7 +2,7 @@
 
 use crate::bodies::{Pieces, is_same, name_of};
 use mx_file_name::{FileName, PartName, part_name};
-use mx_folder::{Folder, FolderError, Kind, SystemFolder};
+use mx_folder::{Folder, FolderError, Kind, PartFile, SystemFolder, Unplaced};
 use mx_save::{Ledger, SaveError, save_body};
 use mx_types::OutOfMemory;
 use std::alloc::Global;
@@ -34,18 +34,8 @@ struct SaveCall {
     answer: Result<(), SaveError>,
 }
 
-// A call of the folder for a part, and what it answers.
-enum OnPart {
-    Create(Result<(), FolderError>),
-    Append(&'static [u8], Result<usize, FolderError>),
-    Flush(Result<(), FolderError>),
-    Remove(Result<(), FolderError>),
-}
-
 // A call of the folder that is open.
 enum OnOpen {
-    // The number of the part.
-    Part(u64, OnPart),
     // The URL that gives the name, and what is answered.
     Look(&'static str, Result<Kind, FolderError>),
     // A save, flushed, by the first part.
@@ -67,7 +57,7 @@ struct Scenario {
     steps: &'static [Step],
 }
 
-static SCENARIOS: [Scenario; 6] = [
+static SCENARIOS: [Scenario; 5] = [
     Scenario {
         name: "a folder is made",
         root: "made-by-a-test",
@@ -157,22 +147,6 @@ static SCENARIOS: [Scenario; 6] = [
         ],
     },
     Scenario {
-        name: "what is written for a part that isn't open goes nowhere, and is told",
-        root: "other-of-a-test",
-        steps: &[
-            Step::Open("other-of-a-test"),
-            Step::Folder(OnOpen::Part(0, OnPart::Append(b"a", Err(FolderError::NotOpen)))),
-            Step::Folder(OnOpen::Part(0, OnPart::Create(Ok(())))),
-            Step::Folder(OnOpen::Part(1, OnPart::Append(b"b", Err(FolderError::NotOpen)))),
-            Step::Folder(OnOpen::Part(1, OnPart::Flush(Err(FolderError::NotOpen)))),
-            Step::Folder(OnOpen::Part(0, OnPart::Append(b"c", Ok(1)))),
-            Step::Folder(OnOpen::Part(1, OnPart::Remove(Err(FolderError::NotThere)))),
-            Step::Folder(OnOpen::Part(0, OnPart::Append(b"d", Ok(1)))),
-            Step::Files(OnFiles::Holds("other-of-a-test/.mxfetch-42-0.part", "cd")),
-            Step::Files(OnFiles::RemoveFolder("other-of-a-test")),
-        ],
-    },
-    Scenario {
         name: "a folder that is gone, and a file where the folder is to be",
         root: "gone-of-a-test",
         steps: &[
@@ -247,22 +221,6 @@ fn is_saved<R: Files + AllocGlobal>(rt: &R, save: &SaveCall) -> Result<bool, Out
     Ok(saved == save.answer)
 }
 
-// Whether a call for a part answers what it has to.
-fn is_part_answered<R: Files>(
-    folder: &mut SystemFolder<'_, R>,
-    part: &PartName,
-    call: &OnPart,
-) -> bool {
-    match call {
-        OnPart::Create(wanted) => folder.create(part) == *wanted,
-        OnPart::Append(bytes, wanted) => {
-            !bytes.is_empty() && folder.append(part, *bytes) == *wanted
-        }
-        OnPart::Flush(wanted) => folder.flush(part) == *wanted,
-        OnPart::Remove(wanted) => folder.remove(part) == *wanted,
-    }
-}
-
 // Whether a call of the folder that is open answers what it has to.
 fn is_answered<R: Files>(
     alloc: Global,
@@ -270,10 +228,6 @@ fn is_answered<R: Files>(
     step: &OnOpen,
 ) -> Result<bool, OutOfMemory> {
     match step {
-        OnOpen::Part(number, call) => {
-            let part = part_name(alloc, 42, *number)?;
-            Ok(is_part_answered(folder, &part, call))
-        }
         OnOpen::Look(url, wanted) => {
             let name = name_of(alloc, *url)?;
             Ok(folder.look(&name) == *wanted)
@@ -344,7 +298,84 @@ fn play_each<R: Files + AllocGlobal>(rt: &R) -> Result<(), Fail> {
     Ok(())
 }
 
+// Whether two parts take what is written to them in turns, and are flushed.
+fn are_written<P: PartFile>(first: &mut P, second: &mut P) -> bool {
+    first.append(b"a") == Ok(1)
+        && second.append(b"b") == Ok(1)
+        && first.append(b"cd") == Ok(2)
+        && second.flush() == Ok(())
+        && first.append(b"e") == Ok(1)
+        && first.flush() == Ok(())
+}
+
+// Whether a part that was closed takes no more.
+fn is_closed<P: PartFile>(part: &mut P) -> bool {
+    part.append(b"f") == Err(FolderError::NotOpen) && part.flush() == Err(FolderError::NotOpen)
+}
+
+// Whether a part can't have a name that a folder has, is closed then, and can be removed.
+fn is_taken_back<F: Folder>(folder: &mut F, part: F::Part, name: &FileName) -> bool {
+    match folder.place(part, name) {
+        Ok(()) => false,
+        Err(unplaced) => {
+            let Unplaced { mut part, error } = unplaced;
+            let is_closed = is_closed(&mut part);
+            let removed = folder.remove(part);
+            error == FolderError::AlreadyThere && is_closed && removed == Ok(())
+        }
+    }
+}
+
+// Whether two parts that are open at once are written, and then one gets its name, and the other one can't.
+fn are_apart<F: Folder>(
+    folder: &mut F,
+    parts: &[PartName; 2],
+    name: &FileName,
+    taken: &FileName,
+) -> bool {
+    let [one, two] = parts;
+    let (Ok(mut first), Ok(mut second)) = (folder.create(one), folder.create(two)) else {
+        return false;
+    };
+    let are_written = are_written(&mut first, &mut second);
+    let is_taken_back = is_taken_back(folder, second, taken);
+    let is_placed = folder.place(first, name).is_ok();
+    are_written && is_taken_back && is_placed
+}
+
+// Whether two parts of this folder, in which a folder has one of the names, are apart.
+fn are_apart_in<R: Files + AllocGlobal>(rt: &R, path: &str) -> Result<bool, OutOfMemory> {
+    let parts = [part_name(rt.alloc(), 42, 0)?, part_name(rt.alloc(), 42, 1)?];
+    let name = name_of(rt.alloc(), "http://h/x")?;
+    let taken = name_of(rt.alloc(), "http://h/y")?;
+    match SystemFolder::open(rt.alloc(), rt, path) {
+        Ok(mut folder) => Ok(are_apart(&mut folder, &parts, &name, &taken)),
+        Err(_) => Ok(false),
+    }
+}
+
+// Fails where they aren't, or their files are others.
+fn play_parts<R: Files + AllocGlobal>(rt: &R) -> Result<(), Fail> {
+    let _ = fs::remove_dir_all(rt, "parts-of-a-test");
+    let is_made = fs::create_dir_all(rt, "parts-of-a-test/y").is_ok();
+    let are_apart = are_apart_in(rt, "parts-of-a-test")?;
+    let are_left = holds(rt, "parts-of-a-test/x", "acde")
+        && is_done(rt, &OnFiles::Lacks("parts-of-a-test/.mxfetch-42-0.part"))
+        && is_done(rt, &OnFiles::Lacks("parts-of-a-test/.mxfetch-42-1.part"));
+    let is_removed = fs::remove_dir_all(rt, "parts-of-a-test").is_ok();
+    if is_made && are_apart && are_left && is_removed {
+        Ok(())
+    } else {
+        Err("two parts that are open at once".into())
+    }
+}
+
 #[test]
 fn each_row(rt: HostRuntime) -> Result<(), Fail> {
     play_each(&rt)
+}
+
+#[test]
+fn two_parts_are_apart(rt: HostRuntime) -> Result<(), Fail> {
+    play_parts(&rt)
 }

@@ -1,19 +1,16 @@
 use Rattle.std.proofs.Common.{◌≡◌, ◌≤◌, ◌-◌, take, length}
-use Rattle.mx_folder.specs.Steps.{refusals, refused_calls}
-use Rattle.mx_folder.specs.Moments.{AtEachMoment}
-use Rattle.mx_save.specs.Bodies.{Appends, IsOnlyPart}
+use Rattle.mx_save.specs.Bodies.{Appends}
 use Rattle.mx_save.proofs.save.append_all.Given as goal
 
 -- a prefix of the bytes was added to what the part had
 abbrev pub invariant-loop-written : goal.invariant-loop-written
 invariant-loop-written g l =
-    let steps = g.F.Folder.steps in
+    let value = g.P.PartFile.value in
     record {
       within : l.written ≤ length l.bytes;
-      so_far : Appends l.part (take l.written l.bytes) (steps l.fn.folder) (steps l.folder);
-      any_moment : AtEachMoment (IsOnlyPart l.part (steps l.fn.folder)) (steps l.fn.folder) (steps l.folder);
-      grows : refusals (steps l.fn.folder) ≤ refusals (steps l.folder);
-      calls : refused_calls (steps l.folder) ≡ refused_calls (steps l.fn.folder);
+      so_far : Appends (take l.written l.bytes) (value l.fn.part) (value l.part);
+      named : (value l.part).name ≡ (value l.fn.part).name;
+      refused : (value l.part).refused ≡ (value l.fn.part).refused;
     }
 
 abbrev pub decreases-loop-written : goal.decreases-loop-written
