@@ -1,5 +1,5 @@
-//! Tests of heads and bodies, of responses whose content is handed on, and of the reasons why bytes are refused, by public calls alone. There
-//! is nothing in this crate but tests.
+//! Tests of heads and bodies, of responses whose content is handed on, of readers of one response, and of the reasons why bytes are refused, by
+//! public calls alone. There is nothing in this crate but tests.
 #![tactic(auto)]
 
 #[cfg(test)]
@@ -14,6 +14,8 @@ mod limits;
 mod locations;
 #[cfg(test)]
 mod pieces;
+#[cfg(test)]
+mod readers;
 #[cfg(test)]
 mod reasons;
 #[cfg(test)]

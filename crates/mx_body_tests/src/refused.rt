@@ -2,8 +2,10 @@
 //! test fail, by a text of its own. What a test needs for itself is refused as any allocation is. Without a refusal all of them pass.
 
 use crate::pieces::{decoder, has_many_chunks, read};
+use crate::streams::TWO_CHUNKS;
 use crate::told::{is_verdict, says};
 use mx_body::{Decoder, Stand, decode_whole};
+use mx_reader::Reader;
 use mx_responses_tests_base::bytes::CHUNKED;
 use mx_responses_tests_base::response::Response;
 use mx_responses_tests_base::table::responses;
@@ -157,6 +159,50 @@ fn whole_responses_are_decoded_again(rt: HostRuntime) -> Result<(), Fail> {
 #[test]
 fn pieces_are_fed_again(rt: HostRuntime) -> Result<(), Fail> {
     try_all(rt.alloc(), Way::InPieces)
+}
+
+// Feeds a piece to a reader, again where memory was refused, if the reader and what was handed on are as they were then: whether memory was
+// refused, and whether the piece was taken.
+fn read_again(reader: &mut Reader, piece: &[u8], out: &mut Vec<u8>) -> (bool, bool) {
+    let before = (reader.received(), out.len());
+    match reader.feed(piece, out) {
+        Ok(_) => (false, true),
+        Err(OutOfMemory) => {
+            let is_same = (reader.received(), out.len()) == before;
+            (true, is_same && reader.feed(piece, out).is_ok())
+        }
+    }
+}
+
+// Reads a response of two chunks in pieces: whether memory was refused, and whether its content was handed on.
+fn read_chunks(reader: &mut Reader, out: &mut Vec<u8>) -> (bool, bool) {
+    let mut is_refused = false;
+    for piece in TWO_CHUNKS.chunks(9) {
+        let (lacked, is_taken) = read_again(reader, piece, out);
+        is_refused = is_refused || lacked;
+        if !is_taken {
+            return (is_refused, false);
+        }
+    }
+    let is_whole = reader.stand() == Stand::Complete;
+    (
+        is_refused,
+        is_whole && out.as_slice() == b"hello".as_slice(),
+    )
+}
+
+// rule body-out-of-memory
+#[test]
+fn content_is_handed_on_again(rt: HostRuntime) -> Result<(), Fail> {
+    let mut reader = Reader::flowing(rt.alloc(), Method::Get, None);
+    let mut out = Vec::new(rt.alloc());
+    let (is_refused, is_right) = read_chunks(&mut reader, &mut out);
+    drop(out);
+    drop(reader);
+    if !is_right {
+        return Err("two chunks are handed on wrongly".into());
+    }
+    end_with(is_refused)
 }
 
 // The byte at that offset of the head, 100,000 chunks of one byte, and the end. It takes no memory.

@@ -151,7 +151,7 @@ const MOST_BYTES: u64 = 67_108_864;
 
 /// The limit of the content of a row of the table. A response that is held has its head within its limit, too, where its length is compared
 /// with that; a stream counts the content alone, so its limit is less by the head.
-fn limit_of(row: &Response, bytes: &[u8]) -> u64 {
+pub(crate) fn limit_of(row: &Response, bytes: &[u8]) -> u64 {
     match read_head(bytes) {
         HeadStep::Head(head) => match framing(row.method, &head) {
             Ok(Framing::Counted(_)) => MOST_BYTES.saturating_sub(head.len() as u64),
@@ -203,7 +203,7 @@ fn first_wrong_of_all(alloc: Global) -> Option<Wrong> {
 type Limited = (Response, Option<u64>);
 
 /// 67 bytes: two chunks, of which the sizes are at 47 and 54, and the data at 50 and 57.
-const TWO_CHUNKS: &[u8] =
+pub(crate) const TWO_CHUNKS: &[u8] =
     b"HTTP/1.1 200 OK\r\nTransfer-Encoding: chunked\r\n\r\n2\r\nhe\r\n3\r\nllo\r\n0\r\n\r\n";
 
 /// 24 bytes, of which the last five are the body.
@@ -324,11 +324,11 @@ fn first_wrong_limited(alloc: Global, rows: &[Limited]) -> Option<Wrong> {
 }
 
 /// An interim head of 42 bytes, a redirect of 62, whose location is at 72, and a body.
-const REDIRECT: &[u8] = b"HTTP/1.1 103 Early Hints\r\nLocation: /a\r\n\r\n\
+pub(crate) const REDIRECT: &[u8] = b"HTTP/1.1 103 Early Hints\r\nLocation: /a\r\n\r\n\
     HTTP/1.1 301 Moved\r\nLocation: http://b/\r\nContent-Length: 2\r\n\r\nok";
 
 /// The row of the redirect.
-static REDIRECTED: Response = Response {
+pub(crate) static REDIRECTED: Response = Response {
     decided: Some(106),
     status: 301,
     body: b"ok",
@@ -336,7 +336,7 @@ static REDIRECTED: Response = Response {
 };
 
 /// Whether that is the place of the redirect's location.
-fn is_place(place: Option<Part>) -> bool {
+pub(crate) fn is_place(place: Option<Part>) -> bool {
     match place {
         Some(place) => place.start == 72 && place.end == 81,
         None => false,

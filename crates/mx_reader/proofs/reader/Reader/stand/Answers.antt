@@ -1,0 +1,8 @@
+use Rattle.std.proofs.Common.{sym, ap, subst, ◌∙◌}
+use Rattle.mx_reader.specs.Kinds.{value_of}
+use Rattle.mx_reader.specs.Readers.{IsReader}
+use Rattle.mx_reader.proofs.HeldLemmas.{held_is}
+use Rattle.mx_reader.proofs.reader.Reader.stand.Goals as goal
+
+pub returns-in-Held-clause-exact : goal.returns-in-Held-clause-exact
+returns-in-Held-clause-exact c = subst IsReader (sym (ap value_of c.in-Held.is) ∙ c.self.view_is) (held_is c.in-Held.decoder c.stand.ensures.exact)
