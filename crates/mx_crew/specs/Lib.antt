@@ -1,1 +1,3 @@
+pub mod Gates
 pub mod Stops
+pub mod Worked

@@ -1,5 +1,6 @@
 //! A worker's gate in a run.
 ghost use Rattle.std.specs.Prelude.{◌≡◌, ◌∷◌, ◌++◌, true, [], IfOk, IfErr};
+ghost use mathlib.Core.List.{IsPrefix};
 ghost use Rattle.mx_types.specs.Code.{is_link_code};
 ghost use Rattle.mx_gate.specs.Said.{asked, opened, numbered};
 
@@ -8,6 +9,7 @@ use crate::starts::{StartReport, Starts};
 use mx_gate::{Gate, Said, Turn};
 use mx_request::Endpoint;
 use mx_types::{Code, History};
+use std::marker::{Brand, Model, PhantomData};
 use std::sync::Wait;
 
 /// What the gates of a run have in common.
@@ -26,7 +28,20 @@ impl Common {
     }
 }
 
-/// A worker's gate in a run. It answers as the gate within, but for these.
+/// All that a gate had said before a run. Each call that makes a gate of a run picks it.
+pub(crate) trait Before {
+    ghost use Rattle.std.specs.Prelude.{List};
+    ghost use Rattle.mx_gate.specs.Said.{Said as OneSaid};
+
+    ghost said: { List OneSaid };
+}
+
+impl Before for Brand {
+    ghost said = { [] };
+}
+
+/// A worker's gate in a run. It answers as the gate within, but for these. All that the gate within had said before the run is a beginning of
+/// what it has said.
 ///
 /// It tells whether its worker has started: a worker asks for the moment first, and where its start is refused memory it waits without
 /// having asked for one.
@@ -34,18 +49,32 @@ impl Common {
 /// Where a connection can't be begun since too many files are open, the gates of the run each say so once to their workers, which then drop
 /// their idle connections; a worker asks at least every 20 milliseconds. The connection is put off: for half a second one is tried every
 /// 10 milliseconds, and between tries the gate says that none can be opened yet. After that connections fail.
-#[derive(Drop)]
-pub(crate) struct RunGate<'s, G> {
+pub(crate) struct RunGate<'s, G: Gate, B: Before> {
     gate: G,
     start: StartReport<'s>,
     shortages: &'s Shortages,
     watch: Watch,
     latest: u64,
     said: History<Said>,
+    before: PhantomData<B>,
 }
 
-impl<'s, G> RunGate<'s, G> {
-    pub fn new(common: &'s Common, gate: G) -> RunGate<'s, G> {
+impl<'s, G: Gate, B: Before> Model for RunGate<'s, G, B> {
+    ghost use mathlib.Core.List.{IsPrefix};
+    ghost use Rattle.mx_crew.specs.Gates.{RunGateState};
+
+    ghost Value = { RunGateState G };
+
+    ghost view = { λ g. record { gate = g.gate; said = g.said } };
+
+    ghost invariant = { λ g. IsPrefix B.said (G.said g.gate) };
+}
+
+impl<'s, G: Gate, B: Before> RunGate<'s, G, B> {
+    pub fn new(common: &'s Common, gate: G) -> RunGate<'s, G, B>
+        requires { B.said ≡ G.said gate }
+        ensures { result.said ≡ [] }
+    {
         RunGate {
             gate,
             start: StartReport::new(&common.starts),
@@ -53,13 +82,26 @@ impl<'s, G> RunGate<'s, G> {
             watch: Watch::new(),
             latest: 0,
             said: History::new(),
+            before: PhantomData,
         }
     }
 
-    /// The gate within, once its worker has ended.
-    pub fn into_gate(self) -> G {
-        self.start.end();
-        self.gate
+    /// The gate within, once its worker has ended, and all that this gate said.
+    pub fn into_parts(self) -> (G, History<Said>)
+        ensures said { result.1 ≡ self.entry.said }
+        ensures gate { IsPrefix B.said (G.said result.0) }
+    {
+        let RunGate {
+            gate,
+            start,
+            shortages: _,
+            watch: _,
+            latest: _,
+            said,
+            before: _,
+        } = self;
+        start.end();
+        (gate, said)
     }
 }
 
@@ -74,6 +116,7 @@ fn open_or_tell<G: Gate>(
     ensures fresh { IfOk result (λ link. G.Link.history link ≡ []) }
     ensures code { IfErr result (λ code. is_link_code code ≡ true) }
     ensures moment { G.latest gate.new ≡ G.latest gate.old }
+    ensures said { IsPrefix (G.said gate.old) (G.said gate.new) }
 {
     let answer = gate.open(endpoint);
     if answer.is_ok() {
@@ -85,7 +128,7 @@ fn open_or_tell<G: Gate>(
     answer
 }
 
-impl<'s, G: Gate> Gate for RunGate<'s, G> {
+impl<'s, G: Gate, B: Before> Gate for RunGate<'s, G, B> {
     type Link = G::Link;
 
     ghost said = { λ gate. gate.said };

@@ -1,15 +1,21 @@
 //! A worker's slot.
-ghost use Rattle.std.specs.Prelude.{◌≡◌, ◌≤◌, All, IfErr, IfOk, min, vec_capacity, vec_len};
+ghost use Rattle.std.specs.Prelude.{◌≡◌, ◌≤◌, ◌∷◌, ◌++◌, [], false, All, IfErr, IfOk, min, vec_capacity, vec_len};
+ghost use mathlib.Core.List.{IsPrefix};
+ghost use Rattle.mx_gate.specs.Said.{waited};
+ghost use Rattle.mx_crew.specs.Worked.{EndsTry, HasWorked, IsOfSlot, again_ms};
 
 use crate::beside::Job;
-use crate::gate::{Common, RunGate};
+use crate::gate::{Before, Common, RunGate};
+use crate::worked::{Counts, SeatThen, Worked};
 use mx_gate::{Gate, Turn};
 use mx_link::Link;
 use mx_multi::{AtWork, Multi, Seated, WorkerSeat};
 use mx_transfer::{Outcome, Queued};
 use mx_worker::{WorkerEnd, run_worker};
 use std::alloc::{AllocGlobal, Global};
+use std::marker::Brand;
 use std::random::RandomSource;
+use std::snapshot::Snapshot;
 use std::sync::Wait;
 
 /// How long a worker waits whose start was refused memory, in milliseconds.
@@ -27,21 +33,6 @@ pub struct WorkerSlot<'m, L: Link, G> {
 pub struct NoWorkerSlots<L: Link, G> {
     pub seats: Vec<WorkerSeat<Queued<L>, Outcome>>,
     pub gates: Vec<G>,
-}
-
-/// What a worker did: how many ends it recorded, how many were stale, and how many transfers went back to the queue.
-#[derive(Clone, Copy)]
-pub struct Counts {
-    pub recorded: u32,
-    pub stale: u32,
-    pub given_back: u32,
-}
-
-/// What a worker did, and its gate, which is free again.
-#[derive(Drop)]
-pub struct Worked<G> {
-    pub counts: Counts,
-    pub gate: G,
 }
 
 /// A slot for each seat, as far as there are gates. Seats or gates left over are dropped. Where memory is refused, seats and gates are
@@ -90,8 +81,18 @@ fn fill<'m, L: Link, G: Gate<Link = L> + Drop>(
     }
 }
 
+// What a worker counted, and its seat then.
+#[derive(Drop)]
+struct Done<L: Link> {
+    counts: Counts,
+    last: SeatThen<L>,
+}
+
 // What a worker did. Its seat is dropped.
-fn counts_of<L: Link>(end: WorkerEnd<'_, L>) -> Counts {
+fn done_of<L: Link>(end: WorkerEnd<'_, L>) -> Done<L>
+    ensures seat { result.last.value ≡ end.entry.seat }
+    ensures counts { result.counts ≡ record { recorded = end.entry.recorded; stale = end.entry.stale; given_back = end.entry.given_back } }
+{
     let WorkerEnd {
         seat,
         recorded,
@@ -99,59 +100,95 @@ fn counts_of<L: Link>(end: WorkerEnd<'_, L>) -> Counts {
         given_back,
         ..
     } = end;
+    let seat = seat.into_seat();
+    let last = Snapshot::of(&seat);
     drop(seat);
-    Counts {
-        recorded,
-        stale,
-        given_back,
+    Done {
+        counts: Counts {
+            recorded,
+            stale,
+            given_back,
+        },
+        last,
     }
 }
 
 // Works until the gate stops it, and says what it did. The seat comes back as it was where memory for the start was refused, and the gate
 // doesn't stop it.
+#[tactic(auto, using(crate::proofs::Workers::try_ran, crate::proofs::Workers::try_refused))]
 fn work_once<'m, L: Link, R: Wait + RandomSource + AllocGlobal, G: Gate<Link = L>>(
     rt: &R,
     seat: Seated<'m, AtWork, Queued<L>, Outcome>,
     gate: &mut G,
-) -> Result<Counts, Seated<'m, AtWork, Queued<L>, Outcome>>
-    ensures { IfErr result (λ again. again ≡ seat.entry) }
+) -> Result<Done<L>, Seated<'m, AtWork, Queued<L>, Outcome>>
+    ensures ends { IfOk result (λ done. EndsTry L.history L.token_of seat.entry done.last.value (G.said gate.old) (G.said gate.new) done.counts) }
+    ensures again { IfErr result (λ again. (again ≡ seat.entry) × (G.said gate.new ≡ G.said gate.old ++ waited again_ms false ∷ [])) }
 {
     let end = run_worker(rt, seat, gate);
     if end.refused && matches!(gate.turn(START_AGAIN), Turn::Continue) {
         return Err(end.seat);
     }
-    Ok(counts_of(end))
+    Ok(done_of(end))
 }
 
 // Works until the gate stops it, and says what it did. Where memory for its start is refused, it tries again after a while.
+#[tactic(auto, using(crate::proofs::Workers::refused_again, crate::proofs::Workers::has_worked))]
 fn work_on<'m, L: Link, R: Wait + RandomSource + AllocGlobal, G: Gate<Link = L>>(
     rt: &R,
     seat: Seated<'m, AtWork, Queued<L>, Outcome>,
     gate: &mut G,
-) -> Counts {
+) -> Done<L>
+    requires { G.said gate.old ≡ [] }
+    ensures { HasWorked L.history L.token_of seat.entry result.last.value (G.said gate.new) result.counts }
+{
     let mut seat = seat;
     for _ in rt.forever() {
         match work_once(rt, seat, gate) {
-            Ok(counts) => return counts,
+            Ok(done) => return done,
             Err(again) => seat = again,
         }
     }
     unreachable!()
 }
 
-impl<'m, L: Link, G: Gate<Link = L> + Drop> Job for WorkerSlot<'m, L, G> {
-    type Done = Worked<G>;
+// The seat as it is, and a copy of it for contracts.
+fn shown<'m, L: Link>(
+    seat: Seated<'m, AtWork, Queued<L>, Outcome>,
+) -> (Seated<'m, AtWork, Queued<L>, Outcome>, SeatThen<L>)
+    ensures same { result.0 ≡ seat.entry }
+    ensures then { result.1.value ≡ seat.entry }
+{
+    let multi = seat.multi();
+    let seat = seat.into_seat();
+    let then = Snapshot::of(&seat);
+    (multi.at(seat), then)
+}
+
+// Works as `Job::work` says. What the gate had said is picked by who calls it.
+fn work_at<'m, L: Link, R: Wait + RandomSource + AllocGlobal, G: Gate<Link = L>, B: Before>(
+    rt: &R,
+    common: &Common,
+    seat: Seated<'m, AtWork, Queued<L>, Outcome>,
+    gate: G,
+) -> Worked<L, G>
+    requires { B.said ≡ G.said gate }
+    ensures seat { result.start ≡ seat.entry }
+    ensures gate { IsPrefix B.said (G.said result.gate) }
+{
+    let (seat, start) = shown(seat);
+    let mut gate: RunGate<'_, G, B> = RunGate::new(common, gate);
+    let done = work_on(rt, seat, &mut gate);
+    let (gate, said) = gate.into_parts();
+    Worked::new(done.counts, gate, start, done.last, said)
+}
+
+impl<'m, L: Link, G: Gate<Link = L> + Drop> Job<Worked<L, G>> for WorkerSlot<'m, L, G> {
+    ghost gives = { λ slot worked. IsOfSlot G.said slot.seat slot.gate worked };
 
     // Works until the gate stops it, and says what it did: the gate comes back. Where memory for its start is refused, it tries again after a
-    // while, and the gate tells so. It has no clause, since nobody has the seat afterwards: `run_worker` has them. Tests show that it ends only
-    // where its gate stops it.
-    fn work<R: Wait + RandomSource + AllocGlobal>(self, rt: &R, common: &Common) -> Worked<G> {
+    // while, and the gate tells so. Tests show that it ends only where its gate stops it.
+    fn work<R: Wait + RandomSource + AllocGlobal>(self, rt: &R, common: &Common) -> Worked<L, G> {
         let WorkerSlot { seat, gate } = self;
-        let mut gate = RunGate::new(common, gate);
-        let counts = work_on(rt, seat, &mut gate);
-        Worked {
-            counts,
-            gate: gate.into_gate(),
-        }
+        work_at::<L, R, G, Brand>(rt, common, seat, gate)
     }
 }

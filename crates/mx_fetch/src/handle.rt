@@ -16,19 +16,25 @@ use std::sync::Wait;
 use std::thread::Threads;
 
 // The gates of workers that have ended.
-fn gates_of<G: Drop>(alloc: Global, worked: Vec<Worked<G>>) -> Result<Vec<G>, OutOfMemory>
+fn gates_of<L: Link, G: Drop>(
+    alloc: Global,
+    worked: Vec<Worked<L, G>>,
+) -> Result<Vec<G>, OutOfMemory>
     ensures { IfOk result (λ gates. vec_len gates ≡ vec_len worked) }
 {
     let mut gates = Vec::with_capacity(alloc, worked.len())?;
     let mut worked = worked;
     while let Some(one) = worked.pop() {
-        gates.push_reserved(one.gate);
+        gates.push_reserved(one.into_gate());
     }
     Ok(gates)
 }
 
 // The gates of a crew, if there was one.
-fn free<G: Drop>(alloc: Global, worked: Result<Vec<Worked<G>>, Stop>) -> Result<Vec<G>, Stop>
+fn free<L: Link, G: Drop>(
+    alloc: Global,
+    worked: Result<Vec<Worked<L, G>>, Stop>,
+) -> Result<Vec<G>, Stop>
     ensures { IfOk result (λ gates. IsOkAnd worked (λ w. vec_len gates ≡ vec_len w)) }
 {
     match worked {

@@ -153,11 +153,12 @@ fn read_both<L: Link, R: Wait + Clock>(
 }
 
 // Fails unless the workers recorded two ends, and none of them more than it may.
-fn check_recorded<G>(worked: &[Worked<G>], plan: &Plan) -> Result<(), Trouble> {
+fn check_recorded<L: Link, G>(worked: &[Worked<L, G>], plan: &Plan) -> Result<(), Trouble> {
     let (mut all, mut most) = (0u32, 0u32);
     for one in worked {
-        all = all.saturating_add(one.counts.recorded);
-        most = most.max(one.counts.recorded);
+        let recorded = one.counts().recorded;
+        all = all.saturating_add(recorded);
+        most = most.max(recorded);
     }
     holds(all == 2 && most <= plan.most)
 }
