@@ -60,25 +60,19 @@ whole_left l is whole flushed found name bytes safe left =
 pub leaves_truly : {W : Type 0} (save : Save) (asking : Asking) (given : Option (List (List ℕ))) (old new : List Step) (lines : LinesValue W)
     → TellsOfFolder save asking given old new lines → LeavesTruly save asking given old new lines.told
 leaves_truly save asking given old new lines tells =
-    let l = tells.ledger in
-    let is = tells.whole in
-    let whole = tells.told.whole in
+    let run = tells.run in
+    let l = run.ledger in
     let told = λ (t : PrintedEndValue) (has : Contains lines.told t). member (IsTold asking tells.told.urls l) lines.told t tells.told.told has in
     record {
-      ledger = l;
-      is = is;
-      start = tells.start;
-      now = tells.now;
-      flush = tells.flush;
-      whole = whole;
+      run = run;
       urls = tells.told.urls;
       first = tells.told.first;
       each = told;
-      there = λ t has. there asking l save.flags.fsync new t.end is tells.flush tells.now (told t has).holds;
-      files = subst (λ f. AtEachMoment (HoldsWhole f old) old new) tells.flush
-          (subst (λ steps. AtEachMoment (HoldsWhole l.flush old) old steps) tells.now
-          (subst (λ start. AtEachMoment (HoldsWhole l.flush start) start l.steps) tells.start (whole_since l is whole)));
+      there = λ t has. there asking l save.flags.fsync new t.end run.is run.flush run.now (told t has).holds;
+      files = subst (λ f. AtEachMoment (HoldsWhole f old) old new) run.flush
+          (subst (λ steps. AtEachMoment (HoldsWhole l.flush old) old steps) run.now
+          (subst (λ start. AtEachMoment (HoldsWhole l.flush start) start l.steps) run.start (whole_since l run.is run.whole)));
       power = λ flushed.
-          subst (MayLeaveWhole old) tells.now
-          (subst (λ start. MayLeaveWhole start l.steps) tells.start (whole_left l is whole (tells.flush ∙ flushed)));
+          subst (MayLeaveWhole old) run.now
+          (subst (λ start. MayLeaveWhole start l.steps) run.start (whole_left l run.is run.whole (run.flush ∙ flushed)));
     }

@@ -6,6 +6,7 @@ use Rattle.mx_save.specs.Ledgers.{LedgerValue, IsLedger}
 use Rattle.mx_command.specs.declared.save.Save.{Save}
 use Rattle.mx_save_book.specs.Bodies.{parts_of}
 use Rattle.mx_save_book.specs.Books.{HaveEnded}
+use Rattle.mx_save_book.specs.Jobs.{AreWhole}
 use Rattle.mx_save_book.specs.Lines.{LinesValue, PrintedEndValue}
 use Rattle.mx_save_book.specs.declared.asking.Asking.{Asking}
 use Rattle.mx_save_urls.specs.Runs.{TellsTruly}
@@ -14,26 +15,27 @@ use Rattle.mx_save_urls.specs.Runs.{TellsTruly}
 abbrev pub urls_of : Save → Option (List (List ℕ)) → Option (List (List ℕ))
 urls_of save listed = option_map (λ more. map (λ u. u.now) save.urls.items ++ more) listed
 
--- rule save-each-once
--- Each URL has ended, and was printed once: where it is known which URLs there were, these are the ones. What was saved is in the folder,
--- which had one list of steps when the run began, and has another now: each file was at each moment what it was before or a whole body that
--- was saved, and each body that was saved is there now, flushed where that was asked for.
-pub record SavesIn (save : Save) (asking : Asking) (given : Option (List (List ℕ))) (old new : List Step) (told : List PrintedEndValue) : Type 0 where
+-- The ledger of a run, over a folder that had one list of steps when the run began, and has another now. At each moment each name of a file held
+-- what it held before or a body that was saved under it, and each body that was saved is there now, flushed where that was asked for
+-- (`IsLedger`). All that were saved are whole.
+pub record RunLedger (save : Save) (old new : List Step) : Type 0 where
   pub ledger : LedgerValue OutcomeValue
-  pub whole : IsLedger parts_of ledger
+  pub is : IsLedger parts_of ledger
   pub start : ledger.start ≡ old
   pub now : ledger.steps ≡ new
   pub flush : ledger.flush ≡ save.flags.fsync
+  pub whole : AreWhole ledger.entries
+
+-- rule save-each-once
+-- Each URL has ended, and was printed once: where it is known which URLs there were, these are the ones. What was saved is in the folder, by its
+-- ledger.
+pub record SavesIn (save : Save) (asking : Asking) (given : Option (List (List ℕ))) (old new : List Step) (told : List PrintedEndValue) : Type 0 where
+  pub run : RunLedger save old new
   pub urls : List (List ℕ)
   pub all : (every : List (List ℕ)) → given ≡ Some every → every ≡ urls
-  pub ended : HaveEnded asking urls ledger told
+  pub ended : HaveEnded asking urls run.ledger told
 
--- What was reported holds, and each body that was saved is whole, also where the run has stopped; and what was saved is in the folder, as of a
--- run that hasn't.
+-- What was reported holds, also where the run has stopped; and what was saved is in the folder, by its ledger, as of a run that hasn't.
 pub record TellsOfFolder (save : Save) (asking : Asking) (given : Option (List (List ℕ))) (old new : List Step) {W : Type 0} (lines : LinesValue W) : Type 0 where
-  pub ledger : LedgerValue OutcomeValue
-  pub whole : IsLedger parts_of ledger
-  pub start : ledger.start ≡ old
-  pub now : ledger.steps ≡ new
-  pub flush : ledger.flush ≡ save.flags.fsync
-  pub told : TellsTruly asking given ledger lines
+  pub run : RunLedger save old new
+  pub told : TellsTruly asking given run.ledger lines

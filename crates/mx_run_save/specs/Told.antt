@@ -7,14 +7,14 @@ use Rattle.mx_folder.specs.Files.{File, holding, file}
 use Rattle.mx_folder.specs.Moments.{AtEachMoment, MayBeLeft}
 use Rattle.mx_folder.specs.declared.steps.Step.{Step}
 use Rattle.mx_save.specs.Bodies.{Holds, content_of}
-use Rattle.mx_save.specs.Ledgers.{LedgerValue, IsLedger}
 use Rattle.mx_save_rules.specs.Ends.{EndValue}
 use Rattle.mx_save_rules.specs.declared.end.Verdict.TheVariants as verdict
 use Rattle.mx_command.specs.declared.save.Save.{Save}
 use Rattle.mx_save_book.specs.Bodies.{IsWholeBody, parts_of}
-use Rattle.mx_save_book.specs.Jobs.{AreWhole, Asks, IsTold}
+use Rattle.mx_save_book.specs.Jobs.{Asks, IsTold}
 use Rattle.mx_save_book.specs.Lines.{PrintedEndValue}
 use Rattle.mx_save_book.specs.declared.asking.Asking.{Asking}
+use Rattle.mx_run_save.specs.Saved.{RunLedger}
 
 -- Under the name that was reported is a file with the whole body of a response to the last request of the URL's chain, and no other bytes: as
 -- many as were reported, and on the disk where that was asked for.
@@ -38,19 +38,15 @@ abbrev pub MayLeaveWhole : List Step → List Step → Type 0
 MayLeaveWhole old new = (found : List ℕ → Option File) (name bytes : List ℕ) → IsSafeName name → MayBeLeft found new name bytes
     → MayBeLeft found old name bytes ⊎ ((outcome : OutcomeValue) × IsWholeBody outcome × (bytes ≡ content_of (parts_of outcome)))
 
--- What a run leaves, whether it has stopped or not: what was reported of each URL holds, and of each that was reported as saved its body is
--- there. All bodies that were saved are whole: each name of a file held at each moment what it held before or such a body, which a loss of power
--- leaves, too, where bodies are flushed. The URLs are those that were read: where it is known which there were, the first of these.
+-- What a run leaves, whether it has stopped or not: what was reported of each URL holds, by its ledger, and of each that was reported as saved
+-- its body is there. Each name of a file held at each moment what it held before or the whole body of a response to the last request of a chain,
+-- which a loss of power leaves, too, where bodies are flushed. The URLs are those that were read: where it is known which there were, the first
+-- of these.
 pub record LeavesTruly (save : Save) (asking : Asking) (given : Option (List (List ℕ))) (old new : List Step) (told : List PrintedEndValue) : Type 0 where
-  pub ledger : LedgerValue OutcomeValue
-  pub is : IsLedger parts_of ledger
-  pub start : ledger.start ≡ old
-  pub now : ledger.steps ≡ new
-  pub flush : ledger.flush ≡ save.flags.fsync
-  pub whole : AreWhole ledger.entries
+  pub run : RunLedger save old new
   pub urls : List (List ℕ)
   pub first : (every : List (List ℕ)) → given ≡ Some every → (rest : List (List ℕ)) × (every ≡ urls ++ rest)
-  pub each : (t : PrintedEndValue) → Contains told t → IsTold asking urls ledger t
+  pub each : (t : PrintedEndValue) → Contains told t → IsTold asking urls run.ledger t
   pub there : (t : PrintedEndValue) → Contains told t → t.end.verdict ≡ verdict.Saved → IsThere asking save.flags.fsync new t.end
   pub files : AtEachMoment (HoldsWhole save.flags.fsync old) old new
   pub power : save.flags.fsync ≡ true → MayLeaveWhole old new

@@ -14,11 +14,14 @@ returns-clause-all g c =
     let given = c.new-feed.ensures ∙ ap (λ l. option_map (λ more. map (λ u. u.now) l ++ more) (list_left g.Rd.Read.remaining c.args.list)) c.as_slice.ensures.value in
     on_ok c.save_all-ledger.result.stopped
     (λ all. record {
-      ledger = new;
-      whole = c.finish-folder.ensures.run;
-      start = c.save_all-ledger.ensures.run.folder ∙ ap (λ l. l.start) c.new-ledger.ensures;
-      now = refl;
-      flush = c.save_all-ledger.ensures.run.flush ∙ ap (λ l. l.flush) c.new-ledger.ensures;
+      run = record {
+        ledger = new;
+        is = c.finish-folder.ensures.run;
+        start = c.save_all-ledger.ensures.run.folder ∙ ap (λ l. l.start) c.new-ledger.ensures;
+        now = refl;
+        flush = c.save_all-ledger.ensures.run.flush ∙ ap (λ l. l.flush) c.new-ledger.ensures;
+        whole = all.ended.whole;
+      };
       urls = all.urls;
       all = λ every is. all.all every (given ∙ is);
       ended = ended_later c.args.asking all.urls old new c.save_all-ledger.result.lines.told refl later all.ended;
@@ -33,11 +36,14 @@ returns-clause-told g c =
     let given = c.new-feed.ensures ∙ ap (λ l. option_map (λ more. map (λ u. u.now) l ++ more) (list_left g.Rd.Read.remaining c.args.list)) c.as_slice.ensures.value in
     let t = c.save_all-ledger.ensures.told in
     record {
-      ledger = new;
-      whole = c.finish-folder.ensures.run;
-      start = c.save_all-ledger.ensures.run.folder ∙ ap (λ l. l.start) c.new-ledger.ensures;
-      now = refl;
-      flush = c.save_all-ledger.ensures.run.flush ∙ ap (λ l. l.flush) c.new-ledger.ensures;
+      run = record {
+        ledger = new;
+        is = c.finish-folder.ensures.run;
+        start = c.save_all-ledger.ensures.run.folder ∙ ap (λ l. l.start) c.new-ledger.ensures;
+        now = refl;
+        flush = c.save_all-ledger.ensures.run.flush ∙ ap (λ l. l.flush) c.new-ledger.ensures;
+        whole = t.whole;
+      };
       told = record {
         urls = t.urls;
         first = λ every is. t.first every (given ∙ is);
