@@ -1,6 +1,6 @@
 -- What a gate dials, by the resolver's answer.
 use Rattle.std.proofs.Common.{◌≡◌, ◌≢◌, ℕ, true, false, List, Option, Some, None, refl, subst}
-use Rattle.std.specs.Prelude.{bytes_eq}
+use Rattle.std.specs.Prelude.{IfSome, bytes_eq, option_map}
 use Rattle.std.proofs.lemmas.Slice.Eq.{bytes_eq-Decides}
 use Rattle.std.specs.declared.net.SocketAddr.{SocketAddr}
 use Rattle.std.specs.declared.net.IpAddr.{IpAddr}
@@ -31,16 +31,18 @@ pub is_kept : (gives : Gives) (host : List ℕ) (now : ℕ) (answer : HostAnswer
 is_kept gives host now answer was is t known = record { told = t.told; known = known; code = t.code }
 
 -- what is kept on a host of the same bytes
-pub kept_alike : (gives : Gives) (host other : List ℕ) (answer : HostAnswer) → bytes_eq host other ≡ true → IsKept gives host answer
-    → IsKeptOn gives other (Some (record { host = host; answer = answer })) (Some answer)
-kept_alike gives host other answer same is =
+pub kept_alike : (gives : Gives) (host other : List ℕ) (answer : Option HostAnswer) → bytes_eq host other ≡ true → IfSome answer (IsKept gives host)
+    → IsKeptOn gives other (option_map (λ (a : HostAnswer). record { host = host; answer = a }) answer) answer
+kept_alike gives host other (Some answer) same is =
     subst (λ h. IsKeptOn gives h (Some (record { host = host; answer = answer })) (Some answer)) ((bytes_eq-Decides host other).0 same) (refl, is)
+kept_alike gives host other None same is = λ t none. let n : None ≡ Some t = none in absurd cc
 
 -- and on another
-pub kept_elsewhere : (gives : Gives) (host other : List ℕ) (answer : HostAnswer) → bytes_eq host other ≡ false
-    → IsKeptOn gives other (Some (record { host = host; answer = answer })) None
-kept_elsewhere gives host other answer apart t same is =
+pub kept_elsewhere : (gives : Gives) (host other : List ℕ) (answer : Option HostAnswer) → bytes_eq host other ≡ false
+    → IsKeptOn gives other (option_map (λ (a : HostAnswer). record { host = host; answer = a }) answer) None
+kept_elsewhere gives host other (Some answer) apart t same is =
     let alike = (bytes_eq-Decides host other).1 cc in absurd cc
+kept_elsewhere gives host other None apart t none is = let n : None ≡ Some t = none in absurd cc
 
 pub hears_kept : (gives : Gives) (host : List ℕ) (old new : NamedGateState) (answer : HostAnswer)
     → old.kept ≡ Some (record { host = host; answer = answer }) → new.asked ≡ old.asked → Hears gives host old new answer

@@ -5,7 +5,6 @@ use denote.Ref.{NamedLft}
 use denote.Param.Send.{IsSend, IsSync, struct_send, struct_sync, shr_send, sendable}
 use denote.Struct.Declared.{shape}
 use Rattle.std.proofs.Crossing.{crosses}
-use Rattle.std.specs.contracts.option.Option as Option
 use Rattle.mx_names.specs.declared.lookup.Lookup as lookup
 use Rattle.mx_names.specs.contracts.names.Names as Names
 use Rattle.mx_names.specs.contracts.names.Names.TheInside as NamesInside
@@ -13,7 +12,7 @@ use Rattle.mx_names.specs.contracts.resolver.Shared as Shared
 use Rattle.mx_names.specs.contracts.resolver.Resolver as Resolver
 use Rattle.mx_gate.specs.contracts.sockets.SocketGate as SocketGate
 use Rattle.mx_named_gate.specs.contracts.bell.NameBell as NameBell
-use Rattle.mx_named_gate.specs.contracts.named.Told as Told
+use Rattle.mx_named_gate.specs.contracts.named.Kept as Kept
 use Rattle.mx_named_gate.specs.contracts.named.NamedGate as NamedGate
 use Rattle.mx_named_gate.specs.contracts.named.NamedGate.TheInside as Inside
 
@@ -49,13 +48,13 @@ resolver_field L g s y =
     let b = shared_sync L g s y in
     struct_send (shape (Resolver.the_type L NameBell.the_row g)) (search (sendable, crosses) depth 40, tt)
 
-opt_told : (L : RattleType) (g : lookup.Ghosts L.Denot) → IsSend L → IsSend (Option.the_field (Told.the_row L g)).row
-opt_told L g s = search (sendable, crosses) depth 40 fits 20000
+kept_send : (L : RattleType) (g : lookup.Ghosts L.Denot) → IsSend L → IsSend (Kept.the_row L g)
+kept_send L g s = search (sendable, crosses) depth 40 fits 20000
 
 inside_field : (x : NamedLft) (R L : RattleType) (g : lookup.Ghosts L.Denot) → IsSync R → IsSend L → IsSync L → IsSend (Inside.the_field x R L g).row
 inside_field x R L g r s y = struct_send (shape (Inside.the_type x R L g)) (
   shr_send x.mir x.lft R r,
-  (gate_send x R r, (resolver_field L g s y, (search (sendable, crosses) depth 40, (opt_told L g s, (search (sendable, crosses) depth 40, (search (sendable, crosses) depth 40, tt)))))),
+  (gate_send x R r, (resolver_field L g s y, (search (sendable, crosses) depth 40, (kept_send L g s, (search (sendable, crosses) depth 40, (search (sendable, crosses) depth 40, tt)))))),
 )
 
 pub named_send : (x : NamedLft) (R L : RattleType) (g : lookup.Ghosts L.Denot) → IsSync R → IsSend L → IsSync L → IsSend (NamedGate.the_row x R L g)

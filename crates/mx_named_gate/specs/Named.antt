@@ -1,5 +1,5 @@
 -- A gate that waits for no name.
-use Rattle.std.specs.Prelude.{◌≡◌, ◌≢◌, ◌⊎◌, ℕ, Bool, true, false, List, ◌∷◌, ◌++◌, Option, Some, None, Result, Ok, Err}
+use Rattle.std.specs.Prelude.{◌≡◌, ◌≢◌, ◌⊎◌, ℕ, Bool, true, false, List, ◌≤◌, ◌<◌, length, Option, Some, None, Result, Ok, Err}
 use Rattle.std.specs.declared.net.SocketAddr.{SocketAddr}
 use Rattle.std.specs.declared.net.IpAddr.{IpAddr}
 use Rattle.std.specs.Net.Grammar.{IsIpText}
@@ -19,11 +19,21 @@ pub record ToldState : Type 0 where
   pub host : List ℕ
   pub answer : HostAnswer
 
--- What contracts see of it: the gate that opens its links, the answer that is kept for the next link, what the resolver's table was asked, and
--- all that was said.
+-- what is kept, and for how many bytes of a host there is room
+pub record KeptState : Type 0 where
+  pub told : Option ToldState
+  pub room : ℕ
+
+-- no domain name has more bytes (RFC 1035, section 3.1)
+abbrev pub most_host : ℕ
+most_host = 255
+
+-- What contracts see of it: the gate that opens its links, the answer that is kept for the next link, for how many bytes of its host there is
+-- room, what the resolver's table was asked, and all that was said.
 pub record NamedGateState : Type 0 where
   pub gate : SocketGateState
   pub kept : Option ToldState
+  pub room : ℕ
   pub asked : List AskedState
   pub said : List Said
 
@@ -50,9 +60,9 @@ pub record IsKept (gives : Gives) (host : List ℕ) (answer : HostAnswer) : Type
   pub known : is_known answer ≡ true
   pub code : HasLookupCode answer
 
--- it is kept, or none is, as where memory is refused
-abbrev pub IsNoted : List ℕ → HostAnswer → Option ToldState → Type 0
-IsNoted host answer kept = (kept ≡ Some (record { host = host; answer = answer })) ⊎ (kept ≡ None)
+-- it is kept; but on a host for which there was no room it may be that none is, as where memory is refused
+abbrev pub IsNoted : List ℕ → HostAnswer → ℕ → Option ToldState → Type 0
+IsNoted host answer room kept = (kept ≡ Some (record { host = host; answer = answer })) ⊎ ((kept ≡ None) × (room < length host))
 
 -- the answer that is kept on this host; none where none is kept, or one on another host
 abbrev pub IsKeptOn : Gives → List ℕ → Option ToldState → Option HostAnswer → Type 0
@@ -67,13 +77,14 @@ pub data Hears (gives : Gives) (host : List ℕ) (old new : NamedGateState) (ans
   anew : ((t : ToldState) → old.kept ≡ Some t → t.host ≢ host) → IsTold gives host old.gate.latest answer old.asked new.asked
       → Hears gives host old new answer
 
--- The resolver is asked about the host, which can be opened where it has an answer: that is kept, or none is.
+-- The resolver is asked about the host, which can be opened where it has an answer: that is kept, where there is room for the host.
 pub record Asks (gives : Gives) (host : List ℕ) (old new : NamedGateState) (can : Bool) : Type 0 where
   pub answer : HostAnswer
   pub told : IsTold gives host old.gate.latest answer old.asked new.asked
   pub known : can ≡ is_known answer
-  pub keeps : can ≡ true → IsNoted host answer new.kept
+  pub keeps : can ≡ true → IsNoted host answer old.room new.kept
   pub same : can ≡ false → new.kept ≡ old.kept
+  pub room : old.room ≤ new.room
   pub gate : new.gate ≡ old.gate
 
 -- The addresses of a link to an endpoint, where `was` is what the gate's own lookups before found, and `is` what all have since.

@@ -6,7 +6,7 @@ ghost use Rattle.mx_names.specs.Asked.{HasLookupCode};
 ghost use Rattle.mx_gate.specs.Said.{told, asked, opened, lacked, waited, numbered, is_stop};
 ghost use Rattle.mx_gate.specs.Gates.{next_token};
 ghost use Rattle.mx_gate.specs.Dialling.{addresses_of};
-ghost use Rattle.mx_named_gate.specs.Named.{IsToldOf, IsKept, IsKeptOn, IsNoted, IsTold, Hears, Asks, OpensBy, AreOf};
+ghost use Rattle.mx_named_gate.specs.Named.{IsToldOf, IsKept, IsKeptOn, IsNoted, IsTold, Hears, Asks, OpensBy, AreOf, most_host};
 
 use crate::bell::NameBell;
 use crate::waiting::Waiting;
@@ -20,66 +20,84 @@ use std::net::Net;
 use std::rt::Clock;
 use std::sync::Wait;
 
-// A resolver's answer on a host that is kept.
-#[derive(Drop)]
-struct Told<L: Lookup> {
+// For a host of so many bytes there is room: no domain name has more (RFC 1035, section 3.1).
+const MOST_HOST: usize = 255;
+
+// Room for a host, and the resolver's answer on the host that stands there, where one is kept.
+struct Kept<L: Lookup> {
     host: String,
-    answer: HostAnswer,
+    answer: Option<HostAnswer>,
     by: PhantomData<L>,
 }
 
-impl<L: Lookup> Model for Told<L> {
-    ghost use Rattle.std.specs.Prelude.{string_bytes};
-    ghost use Rattle.mx_named_gate.specs.Named.{ToldState, IsKept};
-
-    ghost Value = { ToldState };
-
-    ghost view = { λ t. record { host = string_bytes t.host; answer = t.answer } };
-
-    ghost invariant = { λ t. IsKept L.gives (string_bytes t.host) t.answer };
-}
-
-// The answer that is kept, where it is on this host.
-fn answer_to<L: Lookup>(told: Option<Told<L>>, host: &str) -> Option<HostAnswer>
-    ensures { IsKeptOn L.gives host.now told result }
-{
-    match told {
-        Some(told) => told.answer_to(host),
-        None => None,
+// Written out, and not derived: no lookup is dropped with it.
+impl<L: Lookup> Drop for Kept<L> {
+    fn drop(self) {
+        let Kept {
+            host,
+            answer,
+            by: _,
+        } = self;
+        drop(host);
+        drop(answer);
     }
 }
 
-impl<L: Lookup> Told<L> {
-    // The answer, where it is on this host.
-    #[tactic(auto, using(crate::proofs::NamedLemmas::kept_alike, crate::proofs::NamedLemmas::kept_elsewhere))]
-    fn answer_to(self, host: &str) -> Option<HostAnswer>
-        ensures { IsKeptOn L.gives host.now (Some self) result }
+impl<L: Lookup> Model for Kept<L> {
+    ghost use Rattle.std.specs.Prelude.{IfSome, option_map, string_bytes, string_capacity};
+    ghost use Rattle.mx_named_gate.specs.Named.{KeptState, IsKept};
+
+    ghost Value = { KeptState };
+
+    ghost view = { λ k. record { told = option_map (λ answer. record { host = string_bytes k.host; answer = answer }) k.answer; room = string_capacity k.host } };
+
+    ghost invariant = { λ k. IfSome k.answer (IsKept L.gives (string_bytes k.host)) };
+}
+
+impl<L: Lookup> Kept<L> {
+    // Room for a host, and no answer.
+    fn new(alloc: Global) -> Result<Kept<L>, OutOfMemory>
+        ensures { IfOk result (λ kept. kept ≡ record { told = None; room = most_host }) }
     {
+        let host = String::with_capacity(alloc, MOST_HOST)?;
+        Ok(Kept {
+            host,
+            answer: None,
+            by: PhantomData,
+        })
+    }
+
+    // The answer, where it is on this host. No answer is kept then.
+    #[tactic(auto, using(crate::proofs::NamedLemmas::kept_alike, crate::proofs::NamedLemmas::kept_elsewhere))]
+    fn take(&mut self, host: &str) -> Option<HostAnswer>
+        ensures answer { IsKeptOn L.gives host.now self.old.told result }
+        ensures spent { self.new ≡ record self.old { told = None } }
+    {
+        let answer = self.answer.take();
         if self.host.as_str() == host {
-            Some(self.answer)
+            answer
         } else {
             None
         }
     }
 
-    // What is known of the host; none where memory is refused.
-    fn of(alloc: Global, host: &str, answer: HostAnswer) -> Option<Told<L>>
+    // Keeps the answer on the host, in place of the other, where there is room for the host or memory for that is given.
+    fn keep(&mut self, host: &str, answer: HostAnswer)
         requires { IsKept L.gives host.now answer }
-        ensures { IsNoted host.now answer result }
+        ensures noted { IsNoted host.now answer self.old.room self.new.told }
+        ensures room { self.old.room ≤ self.new.room }
     {
-        match String::from_str(alloc, host) {
-            Ok(host) => Some(Told {
-                host,
-                answer,
-                by: PhantomData,
-            }),
-            Err(_) => None,
+        self.answer = None;
+        self.host.clear();
+        if self.host.push_str(host).is_ok() {
+            self.answer = Some(answer);
         }
     }
 }
 
 /// A gate that opens TCP connections as a `SocketGate`, and has names looked up by a resolver, so that it is to wait for none. Contracts
-/// see the gate within, the answer that is kept, what the resolver's table was asked, and all that was said.
+/// see the gate within, the answer that is kept, for how many bytes of its host there is room, what the resolver's table was asked, and all
+/// that was said.
 ///
 /// Its `now` and `turn` have the bound `Wait` since the other methods of `Gate` need it. They take no lock, but `turn` blocks as that of
 /// the gate within. No clause says how long a call waits.
@@ -88,7 +106,7 @@ pub struct NamedGate<'r, R, L: Lookup> {
     gate: SocketGate<'r, R>,
     resolver: Resolver<L, NameBell>,
     waiting: Waiting,
-    told: Option<Told<L>>,
+    kept: Kept<L>,
     asked: History<Asked>,
     said: History<Said>,
 }
@@ -101,14 +119,14 @@ impl<'r, R, L: Lookup + Drop> Drop for NamedGate<'r, R, L> {
             gate,
             resolver,
             waiting,
-            told,
+            kept,
             asked,
             said,
         } = self;
         drop(gate);
         drop(resolver);
         drop(waiting);
-        drop(told);
+        drop(kept);
         drop(asked);
         drop(said);
     }
@@ -119,7 +137,7 @@ impl<'r, R, L: Lookup> Model for NamedGate<'r, R, L> {
 
     ghost Value = { NamedGateState };
 
-    ghost view = { λ g. record { gate = g.gate; kept = g.told; asked = g.asked; said = g.said } };
+    ghost view = { λ g. record { gate = g.gate; kept = g.kept.told; room = g.kept.room; asked = g.asked; said = g.said } };
 }
 
 // The code of a lookup that failed.
@@ -143,6 +161,24 @@ fn listening<R: Net + Clock + AllocGlobal + Wait, L: Lookup>(
     resolver.share()
 }
 
+// The same, with room for an answer.
+fn with_room<R: Net + Clock + AllocGlobal + Wait, L: Lookup>(
+    rt: &R,
+    gate: &SocketGate<'_, R>,
+    resolver: &Resolver<L, NameBell>,
+) -> Result<(Resolver<L, NameBell>, Kept<L>), OutOfMemory>
+    ensures { IfOk result (λ r. r.1 ≡ record { told = None; room = most_host }) }
+{
+    let kept = Kept::new(rt.alloc())?;
+    match listening(rt, gate, resolver) {
+        Ok(resolver) => Ok((resolver, kept)),
+        Err(error) => {
+            drop(kept);
+            Err(error)
+        }
+    }
+}
+
 impl<'r, R: Net + Clock + AllocGlobal + Wait, L: Lookup> NamedGate<'r, R, L> {
     /// A gate with this one within, which has answered nothing yet. It has its names looked up by this resolver, which is to ring the
     /// gate's bell where a lookup has ended; no clause says that it is this resolver, or that the bell is rung. Both are to have one
@@ -157,15 +193,16 @@ impl<'r, R: Net + Clock + AllocGlobal + Wait, L: Lookup> NamedGate<'r, R, L> {
     ) -> Result<NamedGate<'r, R, L>, OutOfMemory>
         ensures said { IfOk result (λ named. named.said ≡ []) }
         ensures fresh { IfOk result (λ named. (named.kept ≡ None) × (named.asked ≡ [])) }
+        ensures room { IfOk result (λ named. named.room ≡ most_host) }
         ensures within { IfOk result (λ named. named.gate ≡ gate.entry) }
     {
-        match listening(rt, &gate, resolver) {
-            Ok(resolver) => Ok(NamedGate {
+        match with_room(rt, &gate, resolver) {
+            Ok((resolver, kept)) => Ok(NamedGate {
                 rt,
                 gate,
                 resolver,
                 waiting: Waiting::new(rt.alloc()),
-                told: None,
+                kept,
                 asked: History::new(),
                 said: History::new(),
             }),
@@ -193,27 +230,28 @@ impl<'r, R: Net + Clock + AllocGlobal + Wait, L: Lookup> NamedGate<'r, R, L> {
         ensures code { HasLookupCode result }
         ensures same { self.new ≡ record self.old { kept = None; asked = self.new.asked } }
     {
-        match answer_to(self.told.take(), host) {
+        match self.kept.take(host) {
             Some(answer) => answer,
             None => self.ask(host),
         }
     }
 
-    // Keeps the resolver's answer on the host, or none where memory is refused.
+    // Keeps the resolver's answer on the host, where there is room for it or memory for that is given.
     fn keep(&mut self, host: &str, answer: HostAnswer)
         requires { IsKept L.gives host.now answer }
-        ensures kept { IsNoted host.now answer self.new.kept }
-        ensures same { self.new ≡ record self.old { kept = self.new.kept } }
+        ensures kept { IsNoted host.now answer self.old.room self.new.kept }
+        ensures room { self.old.room ≤ self.new.room }
+        ensures same { self.new ≡ record self.old { kept = self.new.kept; room = self.new.room } }
     {
         self.waiting.end(host);
-        self.told = Told::of(self.rt.alloc(), host, answer);
+        self.kept.keep(host, answer);
     }
 
-    // Asks the resolver about the host, and keeps its answer, or none. True where there is one.
+    // Asks the resolver about the host, and keeps its answer, where there is room for the host. True where there is one.
     #[tactic(auto, using(crate::proofs::NamedLemmas::is_kept))]
     fn hear(&mut self, host: &str) -> bool
         ensures asks { Asks L.gives host.now self.old self.new result }
-        ensures same { self.new ≡ record self.old { kept = self.new.kept; asked = self.new.asked } }
+        ensures same { self.new ≡ record self.old { kept = self.new.kept; room = self.new.room; asked = self.new.asked } }
     {
         let answer = self.ask(host);
         if matches!(answer, HostAnswer::NotYet) {
@@ -236,6 +274,7 @@ impl<'r, R: Net + Clock + AllocGlobal + Wait, L: Lookup> NamedGate<'r, R, L> {
         ensures addresses { IfOk result (λ link. AreOf L.gives endpoint.now (addresses_of link.link) self.old.gate.found self.new.gate.found) }
         ensures some { IfOk result (λ link. 0 < length link.link.dialled) }
         ensures by { OpensBy L.gives endpoint.now (λ link. addresses_of link.link) self.old self.new result }
+        ensures room { self.new.room ≡ self.old.room }
         ensures said { self.new.said ≡ self.old.said }
     {
         match self.answer_of(endpoint.host.as_str()) {
@@ -272,11 +311,12 @@ impl<'r, R: Net + Clock + AllocGlobal + Wait, L: Lookup> Gate for NamedGate<'r, 
 
     /// It can where the resolver has an answer on the host: its addresses, or why it has none. Else a lookup of it is wanted or under way,
     /// and the resolver rings the bell of the gate where that has ended. No clause says that the bell is rung. It keeps the answer for the
-    /// next `open`, in place of one that it kept before, or keeps none, as where memory is refused. No clause says which.
+    /// next `open`, in place of one that it kept before. On a host for whose bytes there is no room it keeps none where memory for them is
+    /// refused; there is room for 255 bytes, which no domain name exceeds.
     fn can_open(&mut self, endpoint: &Endpoint) -> bool
         ensures moment { self.new.gate.latest ≡ self.old.gate.latest }
         ensures asks { Asks L.gives endpoint.now.host self.old self.new result }
-        ensures others { self.new ≡ record self.old { kept = self.new.kept; asked = self.new.asked; said = self.new.said } }
+        ensures others { self.new ≡ record self.old { kept = self.new.kept; room = self.new.room; asked = self.new.asked; said = self.new.said } }
         ensures noted { self.new.said ≡ self.old.said ++ asked endpoint.now result ∷ [] }
     {
         let can = self.hear(endpoint.host.as_str());
@@ -295,6 +335,7 @@ impl<'r, R: Net + Clock + AllocGlobal + Wait, L: Lookup> Gate for NamedGate<'r, 
         ensures addresses { IfOk result (λ link. AreOf L.gives endpoint.now (addresses_of link.link) self.old.gate.found self.new.gate.found) }
         ensures some { IfOk result (λ link. 0 < length link.link.dialled) }
         ensures by { OpensBy L.gives endpoint.now (λ link. addresses_of link.link) self.old self.new result }
+        ensures room { self.new.room ≡ self.old.room }
         ensures noted { self.new.said ≡ self.old.said ++ opened endpoint.now (numbered (λ link. link.link.token) result) ∷ [] }
     {
         let answer = self.begin(endpoint);
