@@ -706,8 +706,10 @@ def case_files_without_descriptors():
             into, urls = folder(), [server.url(f"/{number}") for number in range(64)]
             run = Saved(["--at-once", "64", "--retry", retries] + urls, into, first=lambda: resource.setrlimit(resource.RLIMIT_NOFILE, (20, 20)))
             codes = [line[1] for line in run.lines]
-            want(len(codes) == 64 and 0 in codes and set(codes) <= {0, 7}, f"{retries}: {codes}")
-            want(b"ulimit -n allows more" in run.err, f"{run.err[-300:]!r}")
+            # a worker may take the descriptor that a file was to get, so a file that isn't tried again may fail
+            may_be = {0, 7} if retries != "0" else {0, 7, 23}
+            want(len(codes) == 64 and 0 in codes and set(codes) <= may_be, f"{retries}: {codes}")
+            want(set(codes) == {0} or b"ulimit -n allows more" in run.err, f"{run.err[-300:]!r}")
             names = {line[4] for line in run.lines if line[0] == "saved"}
             want_files(into, {name: body_of(f"/{name}") for name in names})
 
