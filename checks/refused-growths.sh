@@ -6,7 +6,7 @@
 #     words of its own, which it says for no other cause: at one growth at least, or there is no such call; or
 #   - fail as out of memory, where the growth was one of what the test needs for itself; or
 #   - pass, where the engine does without that growth.
-# A few tests more, of a run that saves, make no call again; they have to fail as out of memory, or to pass.
+# A few tests more, of a run that saves and of a sink, make no call again; they have to fail as out of memory, or to pass.
 # Anything else is wrong: an assertion that fails, other words, a signal, a run that doesn't end. Prints one line for each program
 # and test, and ends with 0 where all did as they have to, with 1 where one didn't, and with 2 where something that it needs isn't
 # there: a program, a test, a C compiler.
@@ -27,10 +27,12 @@ mx_journal_tests    ^refused
 mx_gate_tests       ^refused
 mx_multi_tests      ^refused
 mx_worker_tests     ^refused
+mx_save_tests       put_again$
 '
 # Those that make no call again.
 others='
 mx_save_tests       ^refused
+mx_save_tests       done_without$
 '
 
 # What such a test says where a call that was refused memory answered when it was made again.

@@ -1,5 +1,5 @@
-//! Tests of the names of files, of saving over a folder in memory and over one of the system, and of `save` over loopback. There is nothing
-//! in this crate but tests.
+//! Tests of the names of files, of sinks, of saving over a folder in memory and over one of the system, and of `save` over loopback. There is
+//! nothing in this crate but tests.
 #![tactic(auto)]
 
 #[cfg(test)]
@@ -7,12 +7,20 @@ mod bodies;
 #[cfg(test)]
 mod memory;
 #[cfg(test)]
+mod memory_sinks;
+#[cfg(test)]
 mod names;
+#[cfg(test)]
+mod part_sinks;
 #[cfg(test)]
 mod refused;
 #[cfg(test)]
 mod runs;
 #[cfg(test)]
 mod server;
+#[cfg(test)]
+mod sink_bodies;
+#[cfg(test)]
+mod sinks_without_memory;
 #[cfg(test)]
 mod system;

@@ -1,0 +1,2 @@
+pub mod Sends
+mod Writes

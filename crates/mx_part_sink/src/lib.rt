@@ -1,0 +1,7 @@
+//! A sink that writes the content of a body to a part of a folder, while it comes.
+#![tactic(auto)]
+
+mod part_sink;
+mod write;
+
+pub use crate::part_sink::{PartSink, Unfinished};

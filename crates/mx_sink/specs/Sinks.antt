@@ -1,0 +1,23 @@
+-- What a sink takes, and why it takes nothing.
+use Rattle.std.specs.Prelude.{ℕ, List, [], take, codes, Result, Ok, Err}
+use Rattle.mx_sink.specs.declared.error.SinkError.{SinkError}
+use Rattle.mx_sink.specs.declared.error.SinkError.TheVariants as error
+
+-- what a call took of these bytes: as many as it answers, from the front, and none where it answers an error
+abbrev pub taken : Result ℕ SinkError → List ℕ → List ℕ
+taken (Ok n) bytes = take n bytes
+taken (Err _) bytes = []
+
+-- what a sink in memory took, and how many bytes it may take
+pub record MemorySinkValue : Type 0 where
+  pub got : List ℕ
+  pub most : ℕ
+
+-- the codes (libcurl-errors(3))
+abbrev pub sink_number : SinkError → ℕ
+sink_number error.WriteError = 23
+sink_number error.OutOfMemory = 27
+
+abbrev pub sink_words : SinkError → List ℕ
+sink_words error.WriteError = codes "the content could not be written"
+sink_words error.OutOfMemory = codes "out of memory"
