@@ -1,6 +1,7 @@
 -- Hops that lead one to the next, and how a chain of them ends.
-use Rattle.std.proofs.Common.{◌≡◌, ℕ, ◌≤◌, ◌<◌, Bool, true, List, [], ◌∷◌, ◌++◌, length, Some, None, Ok, Err, inl, inr, ◌⊎◌, refl, sym, ap, ◌∙◌, subst, ◌↔◌, arith}
-use Rattle.std.specs.Prelude.{is_some, ◌||◌, option_map, slice_get}
+use Rattle.std.proofs.Common.{◌≡◌, ℕ, zero, suc, ◌≤◌, ◌<◌, Bool, true, false, List, [], ◌∷◌, ◌++◌, length, Some, None, Ok, Err, inl, inr, ◌⊎◌, refl, sym, ap, ◌∙◌, subst, ◌↔◌, arith}
+use Rattle.std.specs.Prelude.{is_some, if◌then◌else◌, ◌||◌, Option, option_map, slice_get}
+use Rattle.std.proofs.Math.ListN.{get_or}
 use Rattle.std.proofs.lemmas.Bool.{and_parts}
 use Rattle.std.proofs.lemmas.List.Sums.{sum_by-append}
 use Rattle.mx_types.specs.declared.code.Code.{Code}
@@ -10,10 +11,12 @@ use Rattle.mx_request.specs.Request.{RequestValue, IsRequest}
 use Rattle.mx_request.specs.RequestError.{refusal_code}
 use Rattle.mx_request.specs.declared.error.RequestError.{RequestError}
 use Rattle.mx_request.specs.declared.error.RequestError.TheVariants as refusal
+use Rattle.mx_reader.specs.Readers.{IsKept}
 use Rattle.mx_exchange.specs.Hops as hop
 use Rattle.mx_exchange.specs.Exchanges.{HopValue}
 use Rattle.mx_chain.specs.Hops.{is_ok, is_redirect, next_of, LeadTo, EndsWith, stays, too_many, refused, memory}
 use Rattle.mx_chain.specs.Chains.{bytes_in, counted}
+use Rattle.mx_chain.specs.Followed.{AreHeld}
 use Rattle.mx_chain.specs.Outcomes.{IsOutcome, first_of, outcome_of, is_outcome_code, is_unfollowed_code}
 
 -- one hop more
@@ -48,8 +51,8 @@ request_of most first (x ∷ hops) last l h = subst IsRequest l.0 l.2.request
 
 -- an outcome of these hops
 pub made : (heads_alone : Bool) (first : RequestValue) (hops : List HopValue) (last : HopValue) (c : Code) → LeadTo first.settings.max_redirects first hops last.request
-    → length hops ≤ first.settings.max_redirects → hop.IsHop last → EndsWith first.settings.max_redirects (length hops) last c → IsOutcome (outcome_of heads_alone hops last c)
-made heads_alone first hops last c l few h e =
+    → length hops ≤ first.settings.max_redirects → hop.IsHop last → last.limit ≡ None → EndsWith first.settings.max_redirects (length hops) last c → IsOutcome (outcome_of heads_alone hops last c)
+made heads_alone first hops last c l few h held e =
     let same = sym (first_is first.settings.max_redirects first hops last l) in
     record {
       value = refl;
@@ -57,6 +60,7 @@ made heads_alone first hops last c l few h e =
       leads = subst (λ (r : RequestValue). LeadTo r.settings.max_redirects r hops last.request) same l;
       few = subst (λ (r : RequestValue). length hops ≤ r.settings.max_redirects) same few;
       last = h;
+      held = held;
       ends = subst (λ (r : RequestValue). EndsWith r.settings.max_redirects (length hops) last c) same e;
     }
 
@@ -152,3 +156,23 @@ ends_listed most followed o c (memory r n) h = refl
 -- the bytes of one hop more are counted
 pub bytes_more : (hops : List HopValue) (o : HopValue) → counted (bytes_in hops) (length o.wire) ≡ bytes_in (hops ++ o ∷ [])
 bytes_more hops o = omega (arith, sum_by-append (λ (x : HopValue). length x.wire) hops (o ∷ []))
+
+-- of a response that is held all is kept
+pub kept_is : (limit : Option ℕ) (wire kept : List ℕ) → limit ≡ None → IsKept limit wire kept → kept ≡ wire
+kept_is limit wire kept held k = subst (λ (l : Option ℕ). IsKept l wire kept) held k
+
+-- one more hop whose response is held
+held_more : (hops : List HopValue) (o : HopValue) → AreHeld hops → o.limit ≡ None → AreHeld (hops ++ o ∷ [])
+held_more [] o h held = (held, tt)
+held_more (x ∷ hops) o h held = (h.0, held_more hops o h.1 held)
+
+-- where it was added
+pub held_pushed : (added : Bool) (hops : List HopValue) (o : HopValue) → AreHeld hops → o.limit ≡ None → AreHeld (if added then hops ++ o ∷ [] else hops)
+held_pushed true hops o h held = held_more hops o h held
+held_pushed false hops o h held = h
+
+-- and each that is read
+pub held_read : (hops : List HopValue) (i : ℕ) (d : HopValue) → AreHeld hops → i < length hops → (get_or hops i d).limit ≡ None
+held_read [] i d h less = absurd (omega (arith, less))
+held_read (x ∷ hops) zero d h less = h.0
+held_read (x ∷ hops) (suc i) d h less = held_read hops i d h.1 (omega (arith, less))

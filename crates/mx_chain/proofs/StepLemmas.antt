@@ -6,7 +6,7 @@ use Rattle.mx_types.specs.declared.code.Code.{Code}
 use Rattle.mx_types.specs.declared.code.Code.TheVariants as code
 use Rattle.mx_link.specs.declared.answers.Answer.{Answer}
 use Rattle.mx_exchange.specs.Endings.{IsUndecided}
-use Rattle.mx_exchange.specs.Exchanges.{HopValue, ExchangeState, IsExchange, KeepsToken, renewed}
+use Rattle.mx_exchange.specs.Exchanges.{HopValue, ExchangeState, IsExchange, KeepsToken, capped, renewed}
 use Rattle.mx_chain.specs.Hops.{LeadTo, EndsWith}
 use Rattle.mx_chain.specs.Outcomes.{OutcomeValue, hops_of, outcome_of}
 use Rattle.mx_chain.specs.Chains.{ChainState, IsChain, counted, bytes_in, received_of, released, left_of, over, onward}
@@ -64,7 +64,7 @@ module _ {L : Type 0} (t : ChainState L) (mid : ExchangeState L) (o : HopValue) 
   goes_home (stepped.Ended x) (finishes c why e (inl home)) = λ left. (home.1 left).0
   goes_home (stepped.Ended x) (finishes c why e (inr home)) = λ left. absurd (left home.0)
 
-  pub goes_received : (s : Stepped) → GoesOn t mid o new (how_of s) → t.earlier ≡ bytes_in t.hops → mid.received ≡ length o.wire
+  pub goes_received : (s : Stepped) → GoesOn t mid o new (how_of s) → t.earlier ≡ bytes_in t.hops → mid.received ≡ capped (length o.wire)
       → IfEnded s (λ x. received_of new ≡ bytes_in (hops_of x))
   goes_received stepped.Waits g was wire = tt
   goes_received stepped.Asks g was wire = tt
@@ -89,7 +89,7 @@ module _ {L : Type 0} (t : ChainState L) (mid : ExchangeState L) (o : HopValue) 
       subst (λ (y : Option L). KeepsToken f x y) (sym (ap (λ (z : ChainState L). z.now.link) e)) (released_token f x mid.is_kept _ mid refl k)
 
   pub goes_undecided : (history : L → List Answer) (asked : L → List ℕ) (token_of : L → ℕ) (s : Stepped) → GoesOn t mid o new (how_of s) → IsChain new
-      → IsExchange history asked token_of new.now → IfGoing s (IsUndecided new.now.request.method new.now.answers)
+      → IsExchange history asked token_of new.now → IfGoing s (IsUndecided new.now.limit new.now.request.method new.now.answers)
   goes_undecided history asked token_of stepped.Waits g k h = absurd (not_waits waits g refl)
   goes_undecided history asked token_of stepped.Asks g k h = h.undecided (k.going.0 (goes_again stepped.Asks g))
   goes_undecided history asked token_of (stepped.Ended x) g k h = tt
@@ -164,15 +164,15 @@ module _ {L : Type 0} where
 
   -- it ends with it
   pub ends_on : (t new : ChainState L) (o : HopValue) (c : Code) (x : OutcomeValue) → t.now.is_kept ≡ false
-      → LeadTo t.request.settings.max_redirects t.request t.hops o.request → length t.hops ≤ t.request.settings.max_redirects → IsHop o
+      → LeadTo t.request.settings.max_redirects t.request t.hops o.request → length t.hops ≤ t.request.settings.max_redirects → IsHop o → o.limit ≡ None
       → EndsWith t.request.settings.max_redirects (length t.hops) o c → x ≡ outcome_of t.heads_alone t.hops o c
       → new ≡ record t { hops = []; code = Some c; link = new.link; home = new.home } → SettlesHome t t.link o.request new
       → GoesOnTo t o new (stepped.Ended x)
-  ends_on t new o c x unkept leads few is why same e home =
+  ends_on t new o c x unkept leads few is held why same e home =
       subst (λ (y : OutcomeValue). GoesOnTo t o new (stepped.Ended y)) (sym same) (record {
         goes = finishes c why (e ∙ (λ i. record (record t { hops = []; code = Some c; link = new.link; home = new.home }) { now = sym (released_same t.now unkept) i }))
             (subst (λ (l : Option L). SettlesHome t l o.request new) (sym (left_same t.now t.link unkept)) home);
-        outcome = made t.heads_alone t.request t.hops o c leads few is why;
+        outcome = made t.heads_alone t.request t.hops o c leads few is held why;
         value = first_is t.request.settings.max_redirects t.request t.hops o leads;
       })
 
@@ -184,7 +184,12 @@ module _ {L : Type 0} where
     leads = λ e. absurd (not_none t.code some e);
     few = few;
     bytes = λ e. absurd (not_none t.code some e);
+    held = k.held;
   }
+
+  -- its responses are held as before
+  pub released_limit : (n : ExchangeState L) → n.limit ≡ None → (released n).limit ≡ None
+  released_limit n held = elim (n.is_kept) as (λ b. (cond b (record n { link = None; attached = None; answers = []; is_reused = false; needs_probe = false; is_kept = false }) n).limit ≡ None) [ true ↦ held | false ↦ held ]
 
   pub released_unkept : (n : ExchangeState L) → (released n).is_kept ≡ false
   released_unkept n = elim (n.is_kept) as (λ b. n.is_kept ≡ b → (cond b (record n { link = None; attached = None; answers = []; is_reused = false; needs_probe = false; is_kept = false }) n).is_kept ≡ false) [ true ↦ λ e. refl | false ↦ λ e. e ] refl

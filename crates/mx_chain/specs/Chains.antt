@@ -31,7 +31,7 @@ begun request = record {
   request = request;
   hops = [];
   heads_alone = false;
-  now = exchange.begun request;
+  now = exchange.begun None request;
   linked = false;
   earlier = 0;
   code = None;
@@ -113,3 +113,5 @@ pub record IsChain {L : Type 0} (t : ChainState L) : Type 0 where
   pub leads : t.code ≡ None → LeadTo t.request.settings.max_redirects t.request t.hops t.now.request
   pub few : length t.hops ≤ t.request.settings.max_redirects
   pub bytes : t.code ≡ None → t.earlier ≡ bytes_in t.hops
+  -- the responses are held
+  pub held : t.now.limit ≡ None

@@ -1,5 +1,5 @@
 -- Private: the hops that a transfer followed, as memory has them.
-use Rattle.std.specs.Prelude.{Bool, true, false, List}
+use Rattle.std.specs.Prelude.{◌≡◌, Bool, true, false, List, [], ◌∷◌, None}
 use Rattle.mx_exchange.specs.Exchanges.{HopValue}
 use Rattle.mx_chain.specs.declared.followed.Kept.{Kept}
 use Rattle.mx_chain.specs.declared.followed.Kept.TheVariants as kept
@@ -8,6 +8,11 @@ use Rattle.mx_chain.specs.declared.followed.Kept.TheVariants as kept
 pub record FollowedHops : Type 0 where
   pub all : List HopValue
   pub heads_alone : Bool
+
+-- the responses of these hops are held
+abbrev pub AreHeld : List HopValue → Type 0
+AreHeld [] = Unit {0}
+AreHeld (o ∷ hops) = (o.limit ≡ None) × AreHeld hops
 
 abbrev pub followed_of : Kept → FollowedHops
 followed_of (kept.Whole hops) = record { all = hops.items; heads_alone = false }

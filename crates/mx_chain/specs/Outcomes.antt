@@ -78,4 +78,6 @@ pub record IsOutcome (o : OutcomeValue) : Type 0 where
   pub leads : LeadTo o.request.settings.max_redirects o.request o.earlier o.last.request
   pub few : length o.earlier ≤ o.request.settings.max_redirects
   pub last : hop.IsHop o.last
+  -- its response is held
+  pub held : o.last.limit ≡ None
   pub ends : EndsWith o.request.settings.max_redirects (length o.earlier) o.last o.code

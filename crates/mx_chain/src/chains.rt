@@ -1,7 +1,7 @@
 //! A transfer with its hops.
 ghost use Rattle.std.specs.Prelude.{◌≡◌, ◌≢◌, ◌≤◌, ◌<◌, ◌↔◌, ◌⊎◌, ℕ, true, false, None, Some, Ok, Err, IsSome, IfSome, IsTrue, MatchResult, is_some, option_map, option_copied, length};
 ghost use Rattle.mx_request.specs.declared.error.RequestError.TheVariants as refusal;
-ghost use Rattle.mx_exchange.specs.Exchanges.{ExchangeState, WantsLink, IsDue, IsExchange, KeepsToken, attached, clocked, renewed};
+ghost use Rattle.mx_exchange.specs.Exchanges.{ExchangeState, WantsLink, IsDue, IsExchange, KeepsToken, attached, capped, clocked, renewed};
 ghost use Rattle.mx_types.specs.Code.{is_link_code};
 ghost use Rattle.mx_exchange.specs.Endings.{IsUndecided};
 ghost use Rattle.mx_chain.specs.Hops.{is_redirect, next_of, LeadTo, EndsWith};
@@ -362,6 +362,7 @@ impl<L: Link> Chain<L> {
         requires unkept { self.old.now.is_kept ≡ false }
         requires leads { LeadTo self.old.request.settings.max_redirects self.old.request self.old.hops hop.request }
         requires cause { EndsWith self.old.request.settings.max_redirects (length self.old.hops) hop code }
+        requires held { hop.limit ≡ None }
         ensures { GoesOnTo self.old hop self.new result }
     {
         // proof: what holds of a hop
@@ -393,7 +394,8 @@ impl<L: Link> Chain<L> {
         requires leads { LeadTo self.old.request.settings.max_redirects self.old.request self.old.hops hop.request }
         requires follows { IsFollowed self.old.request.settings.max_redirects (length self.old.hops) hop next }
         requires bytes { self.old.earlier ≡ bytes_in self.old.hops }
-        requires wire { self.old.now.received ≡ length hop.wire }
+        requires wire { self.old.now.received ≡ capped (length hop.wire) }
+        requires held { hop.limit ≡ None }
         ensures { GoesOnTo self.old hop self.new result }
     {
         // proof: what holds of a hop
@@ -449,7 +451,8 @@ impl<L: Link> Chain<L> {
         requires ended { IsSome self.old.code }
         requires leads { LeadTo self.old.request.settings.max_redirects self.old.request self.old.hops hop.request }
         requires bytes { self.old.earlier ≡ bytes_in self.old.hops }
-        requires wire { self.old.now.received ≡ length hop.wire }
+        requires wire { self.old.now.received ≡ capped (length hop.wire) }
+        requires held { hop.limit ≡ None }
         ensures { GoesOnTo self.old hop self.new result }
     {
         self.release();
@@ -478,9 +481,13 @@ impl<L: Link> Chain<L> {
         ensures token { KeepsToken L.token_of self.old.now.link self.new.now.link }
         ensures known { IsChain self.new }
         ensures hop { IsExchange L.history L.asked L.token_of self.new.now }
-        ensures undecided { IfGoing result (IsUndecided self.new.now.request.method self.new.now.answers) }
+        ensures undecided { IfGoing result (IsUndecided self.new.now.limit self.new.now.request.method self.new.now.answers) }
     {
-        match self.exchange.turn() {
+        // Nothing is handed on of a response that is held.
+        let mut none = Vec::new(self.alloc);
+        let turned = self.exchange.turn(&mut none);
+        drop(none);
+        match turned {
             Turned::Waits => Stepped::Waits,
             Turned::Asks => Stepped::Asks,
             Turned::Ended(hop) => {

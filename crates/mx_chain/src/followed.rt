@@ -39,11 +39,12 @@ impl HopHeads {
     // rule redirect-heads
     /// What is left of that hop. Its body is freed.
     fn of(hop: Hop) -> HopHeads
+        requires { hop.limit ≡ None }
         ensures { result ≡ hop }
     {
         let ended = Snapshot::of(&hop);
         let status = hop.status();
-        let count = heads_len(hop.wire());
+        let count = heads_len(hop.kept());
         let (request, mut heads) = hop.into_parts();
         heads.truncate(count);
         heads.shrink_to_fit();
@@ -82,14 +83,16 @@ impl HopHeads {
 
 /// The heads of a hop's response.
 pub(crate) fn heads_of(hop: &Hop) -> &[u8]
+    requires { hop.now.limit ≡ None }
     ensures { HasHeads hop.now.wire result.now }
 {
-    let wire = hop.wire();
-    &wire[..heads_len(wire)]
+    let kept = hop.kept();
+    &kept[..heads_len(kept)]
 }
 
 /// Adds what is left of a hop. Where memory for its place is refused, the hop comes back whole.
 fn push_heads(hops: &mut Vec<HopHeads>, hop: Hop) -> Result<(), AllocFailed<Hop>>
+    requires { hop.limit ≡ None }
     ensures items { hops.new.items ≡ if is_ok result then hops.old.items ++ hop ∷ [] else hops.old.items }
     ensures value_returned { IfErr result (λ e. e.value ≡ hop) }
 {
@@ -118,11 +121,13 @@ pub(crate) struct Hops {
 }
 
 impl Model for Hops {
-    ghost use Rattle.mx_chain.specs.Followed.{FollowedHops, followed_of};
+    ghost use Rattle.mx_chain.specs.Followed.{AreHeld, FollowedHops, followed_of};
 
     ghost Value = { FollowedHops };
 
     ghost view = { λ h. followed_of h.kept };
+
+    ghost invariant = { λ h. AreHeld (followed_of h.kept).all };
 }
 
 impl Hops {
@@ -190,7 +195,7 @@ impl Hops {
         ensures { option_copied result ≡ if self.now.heads_alone then None else option_map (λ o. o.wire) (slice_get self.now.all i) }
     {
         match &self.kept {
-            Kept::Whole(hops) => Some(hops.get(i)?.wire()),
+            Kept::Whole(hops) => Some(hops.get(i)?.kept()),
             Kept::Heads(_) => None,
         }
     }
@@ -206,8 +211,9 @@ impl Hops {
         }
     }
 
-    /// Adds a hop. Where memory for it is refused, it comes back whole.
+    /// Adds a hop, whose response is held. Where memory for it is refused, it comes back whole.
     pub fn push(&mut self, hop: Hop) -> Result<(), AllocFailed<Hop>>
+        requires { hop.limit ≡ None }
         ensures items { self.new.all ≡ if is_ok result then self.old.all ++ hop ∷ [] else self.old.all }
         ensures same { self.new.heads_alone ≡ self.old.heads_alone }
         ensures value_returned { IfErr result (λ e. e.value ≡ hop) }

@@ -100,7 +100,7 @@ impl Outcome {
         ensures { option_copied result ≡ wire_at self.now i }
     {
         if i == self.earlier.len() {
-            return Some(self.last.wire());
+            return Some(self.last.kept());
         }
         self.earlier.wire(i)
     }
@@ -147,7 +147,7 @@ impl Outcome {
         ensures front { hop.IsFront self.now.last }
         ensures all { self.now.last.code ≢ code.OutOfMemory → result.now ≡ given self.now.last.answers }
     {
-        self.last.wire()
+        self.last.kept()
     }
 
     /// The code: the last hop's, or why no other followed it. Where it is `Ok`, the wire begins with a whole response, or is one, and its

@@ -1,24 +1,25 @@
 -- What one poll does, by the way it ends.
-use Rattle.std.proofs.Common.{◌≡◌, ℕ, ◌≤◌, Bool, true, false, List, [], ◌∷◌, ◌++◌, length, refl, sym, ◌∙◌, ap, subst, append_assoc, length-append, Option, Some, None, ◌↔◌, ◌⊎◌, inl, inr, arith}
+use Rattle.std.proofs.Common.{◌≡◌, ℕ, ◌≤◌, Bool, true, false, List, [], ◌∷◌, ◌++◌, length, refl, sym, ◌∙◌, ap, subst, append_assoc, append-nil, length-append, Option, Some, None, ◌↔◌, ◌⊎◌, inl, inr, arith}
 use Rattle.std.specs.Prelude.{IfSome}
 use Rattle.std.proofs.lemmas.Grind.{flat_map-append}
 use Rattle.mx_types.specs.declared.code.Code.{Code}
 use Rattle.mx_types.specs.declared.code.Code.TheVariants as code
 use Rattle.mx_types.specs.declared.method.Method.{Method}
 use Rattle.mx_request.specs.Request.{RequestValue}
-use Rattle.mx_body.specs.Decision.{IsVerdict, HasStatus}
-use Rattle.mx_body.specs.Decoder.{Decoded, parts_of, is_verdict_code}
+use Rattle.mx_body.specs.Decision.{HasStatus}
+use Rattle.mx_body.specs.Decoder.{is_verdict_code, HasVerdictCode}
+use Rattle.mx_body.specs.declared.decoder.Stand.{Stand}
 use Rattle.mx_body.specs.declared.decoder.Stand.TheVariants as stand
-use Rattle.mx_body.proofs.DecoderLemmas.{code_is}
-use Rattle.mx_body.specs.declared.verdict.Verdict.{Verdict}
-use Rattle.mx_body.specs.declared.verdict.Verdict.TheVariants as verdict
+use Rattle.mx_reader.specs.Judgements.{Judgement, Judges}
+use Rattle.mx_reader.specs.Readers.{ReaderValue, may_keep}
+use Rattle.mx_reader.proofs.CodeLemmas.{codes_are_listed}
 use Rattle.mx_link.specs.Answers.{given, given_by}
 use Rattle.mx_link.specs.declared.answers.Answer.{Answer}
 use Rattle.mx_link.specs.declared.answers.Answer.TheVariants as said
 use Rattle.mx_exchange.specs.Order.{InOrder}
 use Rattle.mx_types.specs.Code.{is_link_code}
-use Rattle.mx_exchange.specs.Endings.{EndsBy, by_bytes, by_end, by_fault, by_memory, MustRetry, may_keep, code_of, fault_code}
-use Rattle.mx_exchange.specs.Exchanges.{HopValue, ExchangeState, IsDue, KeepsToken, clocked, dropped}
+use Rattle.mx_exchange.specs.Endings.{EndsBy, by_bytes, by_end, by_fault, by_memory, MustRetry, code_of, fault_code}
+use Rattle.mx_exchange.specs.Exchanges.{HopValue, ExchangeState, IsDue, HandsOver, KeepsToken, capped, clocked, dropped}
 use Rattle.mx_exchange.specs.Turns.{How, waits, asks, ends, MayTouch, ProbeFails, Probed, Answered, GoesOn, EndsWith, StopsWith, Exchanged, unserved, lost, blocked, unfinished, ended, Turns, late, given_up, paused, refused, turned}
 use Rattle.mx_exchange.specs.Lines.{LineState, ServesTo}
 use Rattle.mx_exchange.specs.declared.calls.Halt.{Halt}
@@ -36,16 +37,35 @@ no_fault (said.Took piece) e = cc
 no_fault said.WriteBlocked e = cc
 no_fault said.WriteFailed e = cc
 
-no_verdict : (kind : Method) (wire : List ℕ) (e : Bool) (v : Verdict) → IsVerdict kind wire e v → code_of v ≡ Some code.OperationTimedout → ⊥
-no_verdict kind wire e (verdict.Complete status len parts keep) h is = cc
-no_verdict kind wire e verdict.More h is = cc
-no_verdict kind wire e (verdict.Fault c) h is =
-    let listed : is_verdict_code c ≡ true = code_is kind wire e (verdict.Fault c) (stand.Fault c) h refl in
-    let same : c ≡ code.OperationTimedout = (let k : Some c ≡ Some code.OperationTimedout = is in cc) in
-    let x : is_verdict_code code.OperationTimedout ≡ true = ap is_verdict_code (sym same) ∙ listed in cc
+no_judgement : (limit : Option ℕ) (kind : Method) (wire : List ℕ) (e : Bool) (j : Judgement) → Judges limit kind wire e j → code_of j.stand ≡ Some code.OperationTimedout → ⊥
+no_judgement limit kind wire e j h is = by_stand j.stand refl is where
+  by_stand : (s : Stand) → j.stand ≡ s → code_of s ≡ Some code.OperationTimedout → ⊥
+  by_stand stand.Complete at is = cc
+  by_stand stand.More at is = cc
+  by_stand (stand.Fault c) at is =
+      let listed : is_verdict_code c ≡ true = subst HasVerdictCode at (codes_are_listed limit kind wire e j h) in
+      let same : c ≡ code.OperationTimedout = (let k : Some c ≡ Some code.OperationTimedout = is in cc) in
+      let x : is_verdict_code code.OperationTimedout ≡ true = ap is_verdict_code (sym same) ∙ listed in cc
+
+-- nothing is handed on where the content stays
+pub none_over : (was is out : List ℕ) → is ≡ was → HandsOver was is out out
+none_over was is out same = record { added = []; grown = same ∙ sym (append-nil was); handed = sym (append-nil out) }
+
+-- what is handed on, where it is this
+pub over_to : (was is at before after : List ℕ) → at ≡ is → HandsOver was is before after → HandsOver was at before after
+over_to was is at before after same h = record { added = h.added; grown = same ∙ h.grown; handed = h.handed }
+
+pub over_from : (was is at before after : List ℕ) → at ≡ was → HandsOver at is before after → HandsOver was is before after
+over_from was is at before after same h = record { added = h.added; grown = h.grown ∙ ap (λ (l : List ℕ). l ++ h.added) same; handed = h.handed }
+
+-- nothing was where nothing is
+pub none_added : (was is before after : List ℕ) → was ≡ [] → is ≡ [] → HandsOver was is before after → after ≡ before
+none_added was is before after none nothing h =
+    let empty : h.added ≡ [] = sym (ap (λ (l : List ℕ). l ++ h.added) none) ∙ sym h.grown ∙ nothing in
+    h.handed ∙ ap (λ (l : List ℕ). before ++ l) empty ∙ append-nil before
 
 module _ {L : Type 0} (history : L → List Answer) where
-  module _ (old new : ExchangeState L) (line next : LineState L) (d : Decoded) (how : Halt)
+  module _ (old new : ExchangeState L) (line next : LineState L) (d : ReaderValue) (how : Halt)
       (had : old.link ≡ Some line.link) (answers : old.answers ≡ line.answers) (again : line.is_reused ≡ old.is_reused) (about : line.request ≡ old.request)
       (was : history line.link ≡ history line.attached ++ line.answers) (is : history next.link ≡ history next.attached ++ next.answers) (t : ServesTo line next how d) where
     grown : next.answers ≡ old.answers ++ t.more
@@ -80,23 +100,29 @@ module _ {L : Type 0} (history : L → List Answer) where
     unretried : ¬ (MustRetry line.request.method line.is_reused next.answers) → ¬ (MustRetry old.request.method old.is_reused next.answers)
     unretried never m = never (subst (λ (b : Bool). MustRetry line.request.method b next.answers) (sym again) (subst (λ (r : RequestValue). MustRetry r.method old.is_reused next.answers) (sym about) m))
 
-    goes : new ≡ record old { link = Some next.link; answers = next.answers; received = length d.wire } → d.wire ≡ given next.answers → GoesOn old new
+    -- as it goes on with this link and this reader
+    abbrev onward : ExchangeState L
+    onward = record old { link = Some next.link; answers = next.answers; received = capped (length d.wire); content = d.judgement.content }
+
+    goes : new ≡ onward → d.wire ≡ given next.answers → GoesOn old new
     goes e f =
         let link : new.link ≡ Some next.link = ap (λ (x : ExchangeState L). x.link) e in
         let all : new.answers ≡ next.answers = ap (λ (x : ExchangeState L). x.answers) e in
+        let content : new.content ≡ d.judgement.content = ap (λ (x : ExchangeState L). x.content) e in
         e
-        ∙ ap (λ (n : ℕ). record old { link = Some next.link; answers = next.answers; received = n }) (ap (λ (l : List ℕ). length l) f)
-        ∙ ap (λ (x : Option L). record old { link = x; answers = next.answers; received = length (given next.answers) }) (sym link)
-        ∙ ap (λ (l : List Answer). record old { link = new.link; answers = l; received = length (given l) }) (sym all)
+        ∙ ap (λ (n : ℕ). record old { link = Some next.link; answers = next.answers; received = n; content = d.judgement.content }) (ap (λ (l : List ℕ). capped (length l)) f)
+        ∙ ap (λ (x : Option L). record old { link = x; answers = next.answers; received = capped (length (given next.answers)); content = d.judgement.content }) (sym link)
+        ∙ ap (λ (l : List Answer). record old { link = new.link; answers = l; received = capped (length (given l)); content = d.judgement.content }) (sym all)
+        ∙ ap (λ (l : List ℕ). record old { link = new.link; answers = new.answers; received = capped (length (given new.answers)); content = l }) (sym content)
 
-    pub Exchange-blocked : how ≡ halt.Blocked → new ≡ record old { link = Some next.link; answers = next.answers; received = length d.wire } → Exchanged history old new waits
+    pub Exchange-blocked : how ≡ halt.Blocked → new ≡ onward → Exchanged history old new waits
     Exchange-blocked e same =
         let so = rw e at t.so in
         let link : new.link ≡ Some next.link = ap (λ (x : ExchangeState L). x.link) same in
         let all : new.answers ≡ next.answers = ap (λ (x : ExchangeState L). x.answers) same in
         blocked (answered new link all) so.1 (goes same so.0.wire)
 
-    pub Exchange-unfinished : how ≡ halt.Unfinished → new ≡ record old { link = Some next.link; answers = next.answers; received = length d.wire } → Exchanged history old new asks
+    pub Exchange-unfinished : how ≡ halt.Unfinished → new ≡ onward → Exchanged history old new asks
     Exchange-unfinished e same =
         let so = rw e at t.so in
         let link : new.link ≡ Some next.link = ap (λ (x : ExchangeState L). x.link) same in
@@ -110,58 +136,61 @@ module _ {L : Type 0} (history : L → List Answer) where
         let bytes : next.request ≡ old.request = ap (λ (l : LineState L). l.request) t.grows ∙ about in
         lost last (answered last refl refl)
         (subst (λ (b : Bool). InOrder b old.request.bytes next.answers) same_reused (subst (λ (r : RequestValue). InOrder next.is_reused r.bytes next.answers) bytes order))
-        (retried so) same
+        (retried so.0) same
 
-    pub Exchange-ended : (c : Code) (o : HopValue) → how ≡ halt.Over c → o.request ≡ line.request → o.wire ≡ d.wire → o.code ≡ c → HasStatus o.wire o.status → o.parts ≡ parts_of d.verdict
-        → o.answers ≡ next.answers → o.is_reused ≡ next.is_reused → new.is_kept ≡ may_keep d.verdict d.wire
-        → new ≡ record old { link = Some next.link; answers = next.answers; code = Some c; is_kept = new.is_kept; received = length d.wire } → Exchanged history old new (ends o)
-    Exchange-ended c o e er ew ec st ep ea eu kept same =
+    pub Exchange-ended : (c : Code) (o : HopValue) → how ≡ halt.Over c → d.limit ≡ old.limit → o.request ≡ line.request → o.limit ≡ d.limit → o.wire ≡ d.wire → o.code ≡ c
+        → HasStatus o.wire o.status → o.parts ≡ d.judgement.parts → o.content ≡ d.judgement.content
+        → o.answers ≡ next.answers → o.is_reused ≡ next.is_reused → new.is_kept ≡ may_keep d.judgement d.wire
+        → new ≡ record old { link = Some next.link; answers = next.answers; code = Some c; is_kept = new.is_kept; received = capped (length d.wire); content = [] } → Exchanged history old new (ends o)
+    Exchange-ended c o e limit er el ew ec st ep eo ea eu kept same =
         let so = rw e at t.so in
         let link : new.link ≡ Some next.link = ap (λ (x : ExchangeState L). x.link) same in
         let all : new.answers ≡ next.answers = ap (λ (x : ExchangeState L). x.answers) same in
-        let cause : EndsBy old.request.method new.answers o.wire d.verdict o.code =
-        subst (λ (x : Code). EndsBy old.request.method new.answers o.wire d.verdict x) (sym ec)
-        (subst (λ (l : List ℕ). EndsBy old.request.method new.answers l d.verdict c) (sym ew)
-        (subst (λ (p : List Answer). EndsBy old.request.method p d.wire d.verdict c) (sym all)
-        (subst (λ (r : RequestValue). EndsBy r.method next.answers d.wire d.verdict c) about so.cause))) in
+        let cause : EndsBy old.limit old.request.method new.answers o.wire d.judgement o.code =
+        subst (λ (x : Code). EndsBy old.limit old.request.method new.answers o.wire d.judgement x) (sym ec)
+        (subst (λ (l : List ℕ). EndsBy old.limit old.request.method new.answers l d.judgement c) (sym ew)
+        (subst (λ (p : List Answer). EndsBy old.limit old.request.method p d.wire d.judgement c) (sym all)
+        (subst (λ (n : Option ℕ). EndsBy n old.request.method next.answers d.wire d.judgement c) limit
+        (subst (λ (r : RequestValue). EndsBy d.limit r.method next.answers d.wire d.judgement c) about so.cause)))) in
         let end : EndsWith old new o = record {
           request = er ∙ about;
+          limit = el ∙ limit;
           status = st;
           answers = ea ∙ sym all;
           reused = eu ∙ same_reused;
           after =
               same
-              ∙ ap (λ (x : Option L). record old { link = x; answers = next.answers; code = Some c; is_kept = new.is_kept; received = length d.wire }) (sym link)
-              ∙ ap (λ (l : List Answer). record old { link = new.link; answers = l; code = Some c; is_kept = new.is_kept; received = length d.wire }) (sym all)
-              ∙ ap (λ (x : Code). record old { link = new.link; answers = new.answers; code = Some x; is_kept = new.is_kept; received = length d.wire }) (sym ec)
-              ∙ ap (λ (l : List ℕ). record old { link = new.link; answers = new.answers; code = Some o.code; is_kept = new.is_kept; received = length l }) (sym ew);
+              ∙ ap (λ (x : Option L). record old { link = x; answers = next.answers; code = Some c; is_kept = new.is_kept; received = capped (length d.wire); content = [] }) (sym link)
+              ∙ ap (λ (l : List Answer). record old { link = new.link; answers = l; code = Some c; is_kept = new.is_kept; received = capped (length d.wire); content = [] }) (sym all)
+              ∙ ap (λ (x : Code). record old { link = new.link; answers = new.answers; code = Some x; is_kept = new.is_kept; received = capped (length d.wire); content = [] }) (sym ec)
+              ∙ ap (λ (l : List ℕ). record old { link = new.link; answers = new.answers; code = Some o.code; is_kept = new.is_kept; received = capped (length l); content = [] }) (sym ew);
         } in
         ended (answered new link all)
-        (record { ends = end; verdict = d.verdict; cause = cause; parts = ep; kept = kept ∙ ap (λ (l : List ℕ). may_keep d.verdict l) (sym ew) })
+        (record { ends = end; judgement = d.judgement; cause = cause; parts = ep; content = eo; kept = kept ∙ ap (λ (l : List ℕ). may_keep d.judgement l) (sym ew) })
         (rw all (unretried so.final))
 
-  -- the request and the code are as they were
+  -- the request, the code and the limit are as they were
   abbrev Stays : ExchangeState L → ExchangeState L → Type 0
-  Stays t new = (new.request ≡ t.request) × (new.code ≡ t.code)
+  Stays t new = (new.request ≡ t.request) × (new.code ≡ t.code) × (new.limit ≡ t.limit)
 
   -- so a probe leaves them, and a turn over the link that doesn't end the exchange
   probed_stays : (t mid : ExchangeState L) → Probed history t mid → Stays t mid
-  probed_stays t mid (inl p) = rw p.1 (refl, refl)
-  probed_stays t mid (inr p) = rw p.after (refl, refl)
+  probed_stays t mid (inl p) = rw p.1 (refl, refl, refl)
+  probed_stays t mid (inr p) = rw p.after (refl, refl, refl)
 
   goes_stays : (t new : ExchangeState L) → GoesOn t new → Stays t new
-  goes_stays t new g = (ap (λ (x : ExchangeState L). x.request) g, ap (λ (x : ExchangeState L). x.code) g)
+  goes_stays t new g = (ap (λ (x : ExchangeState L). x.request) g, ap (λ (x : ExchangeState L). x.code) g, ap (λ (x : ExchangeState L). x.limit) g)
 
   waits_stays : (t new : ExchangeState L) → Exchanged history t new waits → Stays t new
-  waits_stays t new (unserved none e) = rw e (refl, refl)
-  waits_stays t new (lost last a o r e) = rw e (refl, refl)
+  waits_stays t new (unserved none e) = rw e (refl, refl, refl)
+  waits_stays t new (lost last a o r e) = rw e (refl, refl, refl)
   waits_stays t new (blocked a b g) = goes_stays t new g
 
   asks_stays : (t new : ExchangeState L) → Exchanged history t new asks → Stays t new
   asks_stays t new (unfinished a b g) = goes_stays t new g
 
   both_stay : (t mid new : ExchangeState L) → Stays t mid → Stays mid new → Stays t new
-  both_stay t mid new a b = (b.0 ∙ a.0, b.1 ∙ a.1)
+  both_stay t mid new a b = (b.0 ∙ a.0, b.1 ∙ a.1, b.2 ∙ a.2)
 
   module _ (old t new : ExchangeState L) (e : t ≡ clocked old) where
     clock : (how : How) → Turns history t new how → Turns history (clocked old) new how
@@ -208,30 +237,50 @@ module _ {L : Type 0} (history : L → List Answer) where
   Turns-request t new o (given_up early is s) = s.ends.request
   Turns-request t new o (turned m mid p (ended a e r)) = e.ends.request ∙ (probed_stays t mid p).0
 
-  ending : {t new : ExchangeState L} {o : HopValue} → EndsWith t new o → (new.code ≡ Some o.code) × (new.received ≡ length o.wire)
+  -- and of its limit, which stays
+  pub Turns-hop_limit : (t new : ExchangeState L) (o : HopValue) → Turns history t new (ends o) → o.limit ≡ t.limit
+  Turns-hop_limit t new o (late due is s) = s.ends.limit
+  Turns-hop_limit t new o (given_up early is s) = s.ends.limit
+  Turns-hop_limit t new o (turned m mid p (ended a e r)) = e.ends.limit ∙ (probed_stays t mid p).2
+
+  exchanged_limit : (t new : ExchangeState L) (how : How) → Exchanged history t new how → new.limit ≡ t.limit
+  exchanged_limit t new how (unserved none e) = ap (λ (x : ExchangeState L). x.limit) e
+  exchanged_limit t new how (lost last a o r e) = ap (λ (x : ExchangeState L). x.limit) e
+  exchanged_limit t new how (blocked a b g) = ap (λ (x : ExchangeState L). x.limit) g
+  exchanged_limit t new how (unfinished a b g) = ap (λ (x : ExchangeState L). x.limit) g
+  exchanged_limit t new how (ended a e r) = ap (λ (x : ExchangeState L). x.limit) e.ends.after
+
+  pub Turns-limit : (t new : ExchangeState L) (how : How) → Turns history t new how → new.limit ≡ t.limit
+  Turns-limit t new how (late due is s) = ap (λ (x : ExchangeState L). x.limit) s.ends.after
+  Turns-limit t new how (given_up early is s) = ap (λ (x : ExchangeState L). x.limit) s.ends.after
+  Turns-limit t new how (paused m still e) = ap (λ (x : ExchangeState L). x.limit) e
+  Turns-limit t new how (refused m f) = ap (λ (x : ExchangeState L). x.limit) f.after
+  Turns-limit t new how (turned m mid p x) = exchanged_limit mid new how x ∙ (probed_stays t mid p).2
+
+  ending : {t new : ExchangeState L} {o : HopValue} → EndsWith t new o → (new.code ≡ Some o.code) × (new.received ≡ capped (length o.wire))
   ending e = (ap (λ (x : ExchangeState L). x.code) e.after, ap (λ (x : ExchangeState L). x.received) e.after)
 
   -- once it has ended, its code is the hop's, and the bytes received are the wire
-  pub Turns-ended : (t new : ExchangeState L) (o : HopValue) → Turns history t new (ends o) → (new.code ≡ Some o.code) × (new.received ≡ length o.wire)
+  pub Turns-ended : (t new : ExchangeState L) (o : HopValue) → Turns history t new (ends o) → (new.code ≡ Some o.code) × (new.received ≡ capped (length o.wire))
   Turns-ended t new o (late due is s) = ending s.ends
   Turns-ended t new o (given_up early is s) = ending s.ends
   Turns-ended t new o (turned m mid p (ended a e r)) = ending e.ends
 
   -- an exchange that waits, or asks for another turn, is of the same request, and hasn't ended
   pub Turns-waits : (t new : ExchangeState L) → Turns history t new waits → Stays t new
-  Turns-waits t new (refused m f) = rw f.after (refl, refl)
+  Turns-waits t new (refused m f) = rw f.after (refl, refl, refl)
   Turns-waits t new (turned m mid p x) = both_stay t mid new (probed_stays t mid p) (waits_stays mid new x)
 
   pub Turns-asks : (t new : ExchangeState L) → Turns history t new asks → Stays t new
-  Turns-asks t new (paused m still e) = rw e (refl, refl)
+  Turns-asks t new (paused m still e) = rw e (refl, refl, refl)
   Turns-asks t new (turned m mid p x) = both_stay t mid new (probed_stays t mid p) (asks_stays mid new x)
 
   -- no response, no fault of a link and no refusal of memory gives 28
-  untimely : (kind : Method) (past : List Answer) (wire : List ℕ) (v : Verdict) (c : Code) → EndsBy kind past wire v c → c ≡ code.OperationTimedout → ⊥
-  untimely kind past wire v c (by_bytes earlier piece e w h is) t = no_verdict kind wire false v h (is ∙ ap (λ (x : Code). Some x) t)
-  untimely kind past wire v c (by_end earlier e w h is) t = no_verdict kind wire true v h (is ∙ ap (λ (x : Code). Some x) t)
-  untimely kind past wire v c (by_fault earlier last e w m is) t = no_fault last (is ∙ ap (λ (x : Code). Some x) t)
-  untimely kind past wire v c (by_memory earlier last e h w m) t = cc
+  untimely : (limit : Option ℕ) (kind : Method) (past : List Answer) (wire : List ℕ) (j : Judgement) (c : Code) → EndsBy limit kind past wire j c → c ≡ code.OperationTimedout → ⊥
+  untimely limit kind past wire j c (by_bytes earlier piece e w h is) t = no_judgement limit kind wire false j h (is ∙ ap (λ (x : Code). Some x) t)
+  untimely limit kind past wire j c (by_end earlier e w h is) t = no_judgement limit kind wire true j h (is ∙ ap (λ (x : Code). Some x) t)
+  untimely limit kind past wire j c (by_fault earlier last e w m is) t = no_fault last (is ∙ ap (λ (x : Code). Some x) t)
+  untimely limit kind past wire j c (by_memory earlier last e h w m) t = cc
 
   -- 28 comes just where the deadline is due
   pub Turns-late : (t new : ExchangeState L) (o : HopValue) → IfSome t.failure (λ (c : Code). is_link_code c ≡ true) → Turns history t new (ends o) → (o.code ≡ code.OperationTimedout) ↔ IsDue t.deadline t.moment
@@ -241,7 +290,7 @@ module _ {L : Type 0} (history : L → List Answer) where
         let x : is_link_code code.OperationTimedout ≡ true = ap is_link_code (sym e) ∙ listed in cc),
     (λ d. absurd (early d)),
   )
-  Turns-late t new o f (turned m mid p (ended a e r)) = ((λ c. absurd (untimely _ _ _ _ _ e.cause c)), (λ d. absurd (m.0.0 d)))
+  Turns-late t new o f (turned m mid p (ended a e r)) = ((λ c. absurd (untimely _ _ _ _ _ _ e.cause c)), (λ d. absurd (m.0.0 d)))
 
   -- the count never falls
   given-append : (past more : List Answer) → given (past ++ more) ≡ given past ++ given more
@@ -264,16 +313,16 @@ module _ {L : Type 0} (history : L → List Answer) where
       let r = before_last past more earlier last some tail in
       (r.0, ap (λ (l : List Answer). y ∷ l) r.1 ∙ ap (λ (a : Answer). a ∷ (past ++ r.0)) (sym head))
 
-  wire_holds : (kind : Method) (past more answers : List Answer) (wire : List ℕ) (v : Verdict) (c : Code) → answers ≡ past ++ more → (more ≡ [] → ⊥) → EndsBy kind answers wire v c
+  wire_holds : (limit : Option ℕ) (kind : Method) (past more answers : List Answer) (wire : List ℕ) (j : Judgement) (c : Code) → answers ≡ past ++ more → (more ≡ [] → ⊥) → EndsBy limit kind answers wire j c
       → length (given past) ≤ length wire
-  wire_holds kind past more answers wire v c n some (by_bytes earlier piece e w h is) = rw w (longer past more answers n)
-  wire_holds kind past more answers wire v c n some (by_end earlier e w h is) = rw w (longer past more answers n)
-  wire_holds kind past more answers wire v c n some (by_fault earlier last e w m is) = rw w (longer past more answers n)
-  wire_holds kind past more answers wire v c n some (by_memory earlier last e h w m) =
+  wire_holds limit kind past more answers wire j c n some (by_bytes earlier piece e w h is) = rw w (longer past more answers n)
+  wire_holds limit kind past more answers wire j c n some (by_end earlier e w h is) = rw w (longer past more answers n)
+  wire_holds limit kind past more answers wire j c n some (by_fault earlier last e w m is) = rw w (longer past more answers n)
+  wire_holds limit kind past more answers wire j c n some (by_memory earlier last e h w m) =
       let r = before_last past more earlier last some (sym n ∙ e.0) in rw w (longer past r.0 earlier r.1)
 
-  module _ (t : ExchangeState L) (counts : t.received ≡ length (given t.answers)) where
-    counted_on : (mid new : ExchangeState L) (how : How) → mid.received ≡ length (given mid.answers) → Exchanged history mid new how → mid.received ≤ new.received
+  module _ (t : ExchangeState L) (counts : t.received ≡ capped (length (given t.answers))) where
+    counted_on : (mid new : ExchangeState L) (how : How) → mid.received ≡ capped (length (given mid.answers)) → Exchanged history mid new how → mid.received ≤ new.received
     counted_on mid new how c (unserved none e) = omega (arith, ap (λ (x : ExchangeState L). x.received) e)
     counted_on mid new how c (lost last a o m e) =
         let nothing : length (given last.answers) ≡ 0 = ap (λ (l : List ℕ). length l) m.silent in
@@ -281,7 +330,7 @@ module _ {L : Type 0} (history : L → List Answer) where
     counted_on mid new how c (blocked a b g) = omega (arith, c, longer mid.answers a.more new.answers a.noted, ap (λ (x : ExchangeState L). x.received) g)
     counted_on mid new how c (unfinished a b g) = omega (arith, c, longer mid.answers a.more new.answers a.noted, ap (λ (x : ExchangeState L). x.received) g)
     counted_on mid new how c (ended {o} a e r) =
-        omega (arith, c, wire_holds mid.request.method mid.answers a.more new.answers o.wire e.verdict o.code a.noted a.asked e.cause, (ending e.ends).1)
+        omega (arith, c, wire_holds mid.limit mid.request.method mid.answers a.more new.answers o.wire e.judgement o.code a.noted a.asked e.cause, (ending e.ends).1)
 
     stopped_count : {new : ExchangeState L} {o : HopValue} → StopsWith t new o → t.received ≤ new.received
     stopped_count s = omega (arith, counts, ap (λ (l : List ℕ). length l) s.wire, (ending s.ends).1)
@@ -290,12 +339,12 @@ module _ {L : Type 0} (history : L → List Answer) where
     Turns-counted new how u (late due is s) = stopped_count s
     Turns-counted new how u (given_up early is s) = stopped_count s
     Turns-counted new how u (paused m still e) = omega (arith, ap (λ (x : ExchangeState L). x.received) e)
-    Turns-counted new how u (refused m f) = omega (arith, counts, ap (λ (l : List Answer). length (given l)) (u f.needed))
+    Turns-counted new how u (refused m f) = omega (arith, counts, ap (λ (l : List Answer). length (given l)) (u f.needed), ap (λ (x : ExchangeState L). x.received) f.after)
     Turns-counted new how u (turned m mid (inl p) x) = subst (λ (y : ExchangeState L). y.received ≤ new.received) p.1 (counted_on mid new how (rw p.1 counts) x)
     Turns-counted new how u (turned m mid (inr p) x) =
         let same : mid.received ≡ t.received = ap (λ (y : ExchangeState L). y.received) p.after in
         let heard : mid.answers ≡ t.answers = ap (λ (y : ExchangeState L). y.answers) p.after in
-        omega (arith, same, counted_on mid new how (same ∙ counts ∙ ap (λ (l : List Answer). length (given l)) (sym heard)) x)
+        omega (arith, same, counted_on mid new how (same ∙ counts ∙ ap (λ (l : List Answer). capped (length (given l))) (sym heard)) x)
 
   -- the number of a link that is left
   module _ (token_of : L → ℕ) where

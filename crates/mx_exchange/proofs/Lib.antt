@@ -1,4 +1,5 @@
 mod Fronts
+pub mod Judged
 mod Lives
 pub mod Ordered
 pub mod LineSteps

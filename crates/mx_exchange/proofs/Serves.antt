@@ -2,11 +2,11 @@
 use Rattle.std.proofs.Common.{◌≡◌, ℕ, ◌+◌, ◌≤◌, ◌<◌, Bool, true, false, List, [], ◌∷◌, ◌++◌, refl, sym, ◌∙◌, ap, append_assoc, append-nil, arith, inl, inr, ◌⊎◌}
 use Rattle.std.specs.Prelude.{count_by}
 use Rattle.mx_types.specs.declared.code.Code.{Code}
-use Rattle.mx_body.specs.Decoder.{Decoded}
+use Rattle.mx_reader.specs.Readers.{ReaderValue, HandsOn}
 use Rattle.mx_link.specs.Answers.{is_connect, is_read, is_write}
 use Rattle.mx_link.specs.declared.answers.Answer.{Answer}
 use Rattle.mx_link.specs.declared.answers.Answer.TheVariants as said
-use Rattle.mx_exchange.specs.Lines.{LineState, IsOpen, IsGoing, Calls, Grows, StepsTo, HaltSo, ServesTo}
+use Rattle.mx_exchange.specs.Lines.{LineState, IsOpen, IsGoing, ReadsOn, Calls, Grows, StepsTo, HaltSo, ServesTo}
 use Rattle.mx_exchange.specs.declared.calls.Step.TheVariants as step
 use Rattle.mx_exchange.specs.declared.calls.Halt.{Halt}
 use Rattle.mx_exchange.specs.declared.calls.Halt.TheVariants as halt
@@ -44,8 +44,34 @@ not_none : (more : List Answer) (a : Answer) → more ++ a ∷ [] ≡ [] → ⊥
 not_none [] a e = cc
 not_none (x ∷ more) a e = cc
 
+-- what a reader hands on: nothing, what it was fed, and this and then that
+pub reads_none : (r : ReaderValue) (out : List ℕ) → ReadsOn r r out out
+reads_none r out = record {
+  limit = refl;
+  hands = record { added = []; grown = sym (append-nil r.judgement.content); handed = sym (append-nil out) };
+}
+
+pub reads_same : (old new : ReaderValue) (before after : List ℕ) → new.limit ≡ old.limit → new.judgement.content ≡ old.judgement.content → after ≡ before → ReadsOn old new before after
+reads_same old new before after limit content out = record {
+  limit = limit;
+  hands = record { added = []; grown = content ∙ sym (append-nil old.judgement.content); handed = out ∙ sym (append-nil before) };
+}
+
+pub reads_fed : (old new : ReaderValue) (before after : List ℕ) → new.limit ≡ old.limit → HandsOn old new before after → ReadsOn old new before after
+reads_fed old new before after limit h = record { limit = limit; hands = record { added = h.added; grown = h.grown; handed = h.handed } }
+
+pub reads_then : (old mid new : ReaderValue) (before between after : List ℕ) → ReadsOn old mid before between → ReadsOn mid new between after → ReadsOn old new before after
+reads_then old mid new before between after a b = record {
+  limit = b.limit ∙ a.limit;
+  hands = record {
+    added = a.hands.added ++ b.hands.added;
+    grown = b.hands.grown ∙ ap (λ (l : List ℕ). l ++ b.hands.added) a.hands.grown ∙ append_assoc old.judgement.content a.hands.added b.hands.added;
+    handed = b.hands.handed ∙ ap (λ (l : List ℕ). l ++ b.hands.added) a.hands.handed ∙ append_assoc before a.hands.added b.hands.added;
+  };
+}
+
 -- the turn so far
-pub record Serves {L : Type 0} (old new : LineState L) (turn reads writes : ℕ) (d : Decoded) : Type 0 where
+pub record Serves {L : Type 0} (old new : LineState L) (turn reads writes : ℕ) (d : ReaderValue) : Type 0 where
   pub more : List Answer
   pub grows : Grows old new more
   pub connects : ℕ
@@ -56,7 +82,7 @@ pub record Serves {L : Type 0} (old new : LineState L) (turn reads writes : ℕ)
   pub unmade : new.stands ≡ false → connects ≡ 0
 
 module _ {L : Type 0} where
-  pub Serves-none : (old : LineState L) (d : Decoded) → IsGoing old.request.method old.answers d → Serves old old 0 0 0 d
+  pub Serves-none : (old : LineState L) (d : ReaderValue) → IsGoing old.request.method old.answers d → Serves old old 0 0 0 d
   Serves-none old d g = record {
     more = [];
     grows = ap (λ (l : List Answer). record old { answers = l }) (sym (append-nil old.answers));
@@ -75,7 +101,7 @@ module _ {L : Type 0} where
       ∙ ap (λ (m : LineState L). record m { link = new.link; answers = m.answers ++ a ∷ []; stands = new.stands; written = new.written }) e
       ∙ ap (λ (l : List Answer). record old { link = new.link; answers = l; stands = new.stands; written = new.written }) (append_assoc old.answers more (a ∷ []))
 
-module _ {L : Type 0} {old mid : LineState L} {turn reads writes : ℕ} {d : Decoded} (s : Serves old mid turn reads writes d) where
+module _ {L : Type 0} {old mid : LineState L} {turn reads writes : ℕ} {d : ReaderValue} (s : Serves old mid turn reads writes d) where
   -- the request of the turn, and the link that it asks
   pub same_request : mid.request ≡ old.request
   same_request = ap (λ (l : LineState L). l.request) s.grows
@@ -107,9 +133,9 @@ module _ {L : Type 0} {old mid : LineState L} {turn reads writes : ℕ} {d : Dec
     | false ↦ λ e. omega (arith, unconnects a (λ y. let x : true ≡ false = sym y ∙ e in cc), s.once)
   ] refl
 
-module _ {L : Type 0} {old mid new : LineState L} {turn reads writes : ℕ} {d : Decoded} (s : Serves old mid turn reads writes d) where
+module _ {L : Type 0} {old mid new : LineState L} {turn reads writes : ℕ} {d : ReaderValue} (s : Serves old mid turn reads writes d) where
   -- the turn ends by this answer
-  ends : (how : Halt) (to : Decoded) (a : Answer) → reads < 64 → writes < 64 → Grows mid new (a ∷ []) → (is_connect a ≡ true → mid.stands ≡ false)
+  ends : (how : Halt) (to : ReaderValue) (a : Answer) → reads < 64 → writes < 64 → Grows mid new (a ∷ []) → (is_connect a ≡ true → mid.stands ≡ false)
       → HaltSo how old.request.method old.is_reused new.answers to (s.more ++ a ∷ []) → ServesTo old new how to
   ends how to a few fewer grows unmade so =
       let c = longer s a in
@@ -123,17 +149,17 @@ module _ {L : Type 0} {old mid new : LineState L} {turn reads writes : ℕ} {d :
         so = so;
       }
 
-  pub Serve-blocked : reads < 64 → writes < 64 → (to : Decoded) → StepsTo mid new step.Blocked to → ServesTo old new halt.Blocked to
+  pub Serve-blocked : reads < 64 → writes < 64 → (to : ReaderValue) → StepsTo mid new step.Blocked to → ServesTo old new halt.Blocked to
   Serve-blocked few fewer to t = ends halt.Blocked to t.answer few fewer t.grows t.unmade ((rw (same_request s) at t.so.0), (s.more, t.answer, refl, t.so.1))
 
-  pub Serve-lost : reads < 64 → writes < 64 → (to : Decoded) → StepsTo mid new step.Lost to → ServesTo old new halt.Lost to
+  pub Serve-lost : reads < 64 → writes < 64 → (to : ReaderValue) → StepsTo mid new step.Lost to → ServesTo old new halt.Lost to
   Serve-lost few fewer to t = ends halt.Lost to t.answer few fewer t.grows t.unmade (rw (same_request s, same_reused s) at t.so)
 
-  pub Serve-over : reads < 64 → writes < 64 → (to : Decoded) (c : Code) → StepsTo mid new (step.Over c) to → ServesTo old new (halt.Over c) to
+  pub Serve-over : reads < 64 → writes < 64 → (to : ReaderValue) (c : Code) → StepsTo mid new (step.Over c) to → ServesTo old new (halt.Over c) to
   Serve-over few fewer to c t = ends (halt.Over c) to t.answer few fewer t.grows t.unmade (rw (same_request s, same_reused s) at t.so)
 
   -- the turn goes on
-  grown : (r w : ℕ) (to : Decoded) (a : Answer) → Grows mid new (a ∷ []) → (is_connect a ≡ true → mid.stands ≡ false) → (mid.stands ≡ true → new.stands ≡ true)
+  grown : (r w : ℕ) (to : ReaderValue) (a : Answer) → Grows mid new (a ∷ []) → (is_connect a ≡ true → mid.stands ≡ false) → (mid.stands ≡ true → new.stands ≡ true)
       → IsGoing mid.request.method new.answers to → (new.stands ≡ false → is_connect a ≡ true → ⊥)
       → reads + count_by is_read (a ∷ []) ≡ r → writes + count_by is_write (a ∷ []) ≡ w → Serves old new (turn + 1) r w to
   grown r w to a grows unmade kept g other er ew =
@@ -153,26 +179,26 @@ module _ {L : Type 0} {old mid new : LineState L} {turn reads writes : ℕ} {d :
         unmade = λ e. omega (arith, unconnects a (other e), s.unmade (unstood e));
       }
 
-  pub Serves-connected : (to : Decoded) → StepsTo mid new step.Connected to → Serves old new (turn + 1) reads writes to
+  pub Serves-connected : (to : ReaderValue) → StepsTo mid new step.Connected to → Serves old new (turn + 1) reads writes to
   Serves-connected to t =
       let one = counted is_connect t.answer t.so.1 in
       let all = kinds t.answer in
       grown reads writes to t.answer t.grows t.unmade t.kept t.so.0 (λ e y. let x : true ≡ false = sym t.so.2 ∙ e in cc) (omega (arith, one, all)) (omega (arith, one, all))
 
-  pub Serves-wrote : (to : Decoded) → StepsTo mid new step.Wrote to → Serves old new (turn + 1) reads (writes + 1) to
+  pub Serves-wrote : (to : ReaderValue) → StepsTo mid new step.Wrote to → Serves old new (turn + 1) reads (writes + 1) to
   Serves-wrote to t =
       let one = counted is_write t.answer t.so.1 in
       let all = kinds t.answer in
       grown reads (writes + 1) to t.answer t.grows t.unmade t.kept t.so.0 (λ e y. let two = counted is_connect t.answer y in omega (arith, one, two, all)) (omega (arith, one, all)) (omega (arith, one))
 
-  pub Serves-heard : (to : Decoded) → StepsTo mid new step.Heard to → Serves old new (turn + 1) (reads + 1) writes to
+  pub Serves-heard : (to : ReaderValue) → StepsTo mid new step.Heard to → Serves old new (turn + 1) (reads + 1) writes to
   Serves-heard to t =
       let one = counted is_read t.answer t.so.1 in
       let all = kinds t.answer in
       grown (reads + 1) writes to t.answer t.grows t.unmade t.kept t.so.0 (λ e y. let two = counted is_connect t.answer y in omega (arith, one, two, all)) (omega (arith, one)) (omega (arith, one, all))
 
 -- as many calls were made as one turn may make
-pub Serves-full : {L : Type 0} {old new : LineState L} {turn reads writes : ℕ} {d : Decoded} → (s : Serves old new turn reads writes d) → reads ≤ 64 → writes ≤ 64
+pub Serves-full : {L : Type 0} {old new : LineState L} {turn reads writes : ℕ} {d : ReaderValue} → (s : Serves old new turn reads writes d) → reads ≤ 64 → writes ≤ 64
     → (reads ≡ 64) ⊎ (writes ≡ 64) → ServesTo old new halt.Unfinished d
 Serves-full s few fewer full = record {
   more = s.more;

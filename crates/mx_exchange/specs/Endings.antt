@@ -1,24 +1,23 @@
 -- How an exchange ends by what its link answers.
-use Rattle.std.specs.Prelude.{◌≡◌, ◌==◌, ℕ, Bool, true, false, ◌&&◌, ◌⊎◌, List, [], ◌∷◌, ◌++◌, length, Option, Some, None}
+use Rattle.std.specs.Prelude.{◌≡◌, ℕ, Bool, true, false, ◌⊎◌, List, [], ◌∷◌, ◌++◌, Option, Some, None}
 use Rattle.std.specs.List.{list_any}
 use Rattle.mx_types.specs.Code.{is_link_code}
 use Rattle.mx_types.specs.Method.{is_repeatable}
 use Rattle.mx_types.specs.declared.code.Code.{Code}
 use Rattle.mx_types.specs.declared.code.Code.TheVariants as code
 use Rattle.mx_types.specs.declared.method.Method.{Method}
-use Rattle.mx_body.specs.Decision.{IsVerdict}
-use Rattle.mx_body.specs.Decoder.{keep_of, len_of}
-use Rattle.mx_body.specs.declared.verdict.Verdict.{Verdict}
-use Rattle.mx_body.specs.declared.verdict.Verdict.TheVariants as verdict
+use Rattle.mx_body.specs.declared.decoder.Stand.{Stand}
+use Rattle.mx_body.specs.declared.decoder.Stand.TheVariants as stand
 use Rattle.mx_link.specs.Answers.{given}
 use Rattle.mx_link.specs.declared.answers.Answer.{Answer}
 use Rattle.mx_link.specs.declared.answers.Answer.TheVariants as said
+use Rattle.mx_reader.specs.Judgements.{Judgement, Judges, IsUndecidedBy}
 use Rattle.mx_exchange.specs.Order.{is_last}
 
 -- the link has neither failed nor ended, and what it gave decides nothing
-abbrev pub IsUndecided : Method → List Answer → Type 0
-IsUndecided kind answers =
-    (list_any is_last answers ≡ false) × IsVerdict kind (given answers) false verdict.More
+abbrev pub IsUndecided : Option ℕ → Method → List Answer → Type 0
+IsUndecided limit kind answers =
+    (list_any is_last answers ≡ false) × IsUndecidedBy limit kind (given answers)
 
 -- the codes of a link that can't be opened, and that of a deadline
 abbrev pub is_stop_code : Code → Bool
@@ -26,14 +25,18 @@ is_stop_code code.OperationTimedout = true
 is_stop_code c = is_link_code c
 
 -- this was the last answer, and those before it decided nothing
-abbrev pub EndsAt : Method → List Answer → Answer → List Answer → Type 0
-EndsAt kind earlier last answers = (answers ≡ earlier ++ last ∷ []) × IsUndecided kind earlier
+abbrev pub EndsAt : Option ℕ → Method → List Answer → Answer → List Answer → Type 0
+EndsAt limit kind earlier last answers = (answers ≡ earlier ++ last ∷ []) × IsUndecided limit kind earlier
 
--- the code of a verdict
-abbrev pub code_of : Verdict → Option Code
-code_of (verdict.Complete status len parts keep) = Some code.Ok
-code_of verdict.More = None
-code_of (verdict.Fault c) = Some c
+-- the code of a state of the bytes
+abbrev pub code_of : Stand → Option Code
+code_of stand.Complete = Some code.Ok
+code_of stand.More = None
+code_of (stand.Fault c) = Some c
+
+-- nothing is decided of the bytes, which have not ended
+abbrev pub HasMore : Option ℕ → Method → List ℕ → Judgement → Type 0
+HasMore limit kind wire j = Judges limit kind wire false j × (j.stand ≡ stand.More)
 
 -- the code of a fault of a link
 abbrev pub fault_code : Answer → Option Code
@@ -49,21 +52,16 @@ is_heard said.ReadEnded = true
 is_heard _ = false
 
 -- Why an exchange ended with a code over its link: by the link's last answer. Bytes or their end decided; or the
--- link failed; or memory was refused for bytes or their end. The verdict is that on the wire, and `More` where
--- the wire decides nothing.
-pub data EndsBy (kind : Method) (answers : List Answer) (wire : List ℕ) (v : Verdict) : Code → Type 0 where
-  by_bytes : {c : Code} (earlier : List Answer) (piece : List ℕ) → EndsAt kind earlier (said.Gave piece) answers
-      → wire ≡ given answers → IsVerdict kind wire false v → code_of v ≡ Some c → EndsBy kind answers wire v c
-  by_end : {c : Code} (earlier : List Answer) → EndsAt kind earlier said.ReadEnded answers
-      → wire ≡ given answers → IsVerdict kind wire true v → code_of v ≡ Some c → EndsBy kind answers wire v c
-  by_fault : {c : Code} (earlier : List Answer) (last : Answer) → EndsAt kind earlier last answers
-      → wire ≡ given answers → v ≡ verdict.More → fault_code last ≡ Some c → EndsBy kind answers wire v c
-  by_memory : (earlier : List Answer) (last : Answer) → EndsAt kind earlier last answers → is_heard last ≡ true
-      → wire ≡ given earlier → v ≡ verdict.More → EndsBy kind answers wire v code.OutOfMemory
-
--- rule exchange-kept-link: A link may serve again where the response says so and is all that was read.
-abbrev pub may_keep : Verdict → List ℕ → Bool
-may_keep v wire = keep_of v && (len_of v == length wire)
+-- link failed; or memory was refused for bytes or their end. The judgement is that on the wire.
+pub data EndsBy (limit : Option ℕ) (kind : Method) (answers : List Answer) (wire : List ℕ) (j : Judgement) : Code → Type 0 where
+  by_bytes : {c : Code} (earlier : List Answer) (piece : List ℕ) → EndsAt limit kind earlier (said.Gave piece) answers
+      → wire ≡ given answers → Judges limit kind wire false j → code_of j.stand ≡ Some c → EndsBy limit kind answers wire j c
+  by_end : {c : Code} (earlier : List Answer) → EndsAt limit kind earlier said.ReadEnded answers
+      → wire ≡ given answers → Judges limit kind wire true j → code_of j.stand ≡ Some c → EndsBy limit kind answers wire j c
+  by_fault : {c : Code} (earlier : List Answer) (last : Answer) → EndsAt limit kind earlier last answers
+      → wire ≡ given answers → HasMore limit kind wire j → fault_code last ≡ Some c → EndsBy limit kind answers wire j c
+  by_memory : (earlier : List Answer) (last : Answer) → EndsAt limit kind earlier last answers → is_heard last ≡ true
+      → wire ≡ given earlier → HasMore limit kind wire j → EndsBy limit kind answers wire j code.OutOfMemory
 
 -- the link ended or failed while it was written to or read
 abbrev pub is_loss : Answer → Bool
@@ -84,13 +82,13 @@ pub record MustRetry (kind : Method) (reused : Bool) (answers : List Answer) : T
 
 -- Why an exchange ended with a code without a further call on its link: its deadline had come, or the code was given in place of a link.
 -- What the link gave until then decided nothing.
-pub record IsStopped (kind : Method) (answers : List Answer) (wire : List ℕ) (v : Verdict) (c : Code) : Type 0 where
+pub record IsStopped (limit : Option ℕ) (kind : Method) (answers : List Answer) (wire : List ℕ) (j : Judgement) (c : Code) : Type 0 where
   pub listed : is_stop_code c ≡ true
-  pub undecided : IsUndecided kind answers
+  pub undecided : IsUndecided limit kind answers
   pub wire_is : wire ≡ given answers
-  pub more : v ≡ verdict.More
+  pub more : HasMore limit kind wire j
 
 -- how an exchange ended: over its link, which is not to be tried again, or without it
-abbrev pub Ends : Method → Bool → List Answer → List ℕ → Verdict → Code → Type 0
-Ends kind reused answers wire v c =
-    (EndsBy kind answers wire v c × ¬ (MustRetry kind reused answers)) ⊎ IsStopped kind answers wire v c
+abbrev pub Ends : Option ℕ → Method → Bool → List Answer → List ℕ → Judgement → Code → Type 0
+Ends limit kind reused answers wire j c =
+    (EndsBy limit kind answers wire j c × ¬ (MustRetry kind reused answers)) ⊎ IsStopped limit kind answers wire j c

@@ -2,31 +2,39 @@
 use Rattle.std.specs.Prelude.{◌≡◌, ℕ, ◌≤◌, ◌+◌, ◌-◌, ◌^◌, ◌==◌, min, Bool, true, false, List, [], ◌++◌, length, Option, Some, None, IsSome, IfSome, if◌then◌else◌}
 use Rattle.mx_types.specs.declared.code.Code.{Code}
 use Rattle.mx_request.specs.Request.{RequestValue}
+use Rattle.mx_types.specs.declared.method.Method.{Method}
 use Rattle.mx_body.specs.declared.part.Part.{Part}
+use Rattle.mx_reader.specs.Judgements.{Judgement}
 use Rattle.mx_link.specs.Answers.{given}
 use Rattle.mx_link.specs.declared.answers.Answer.{Answer}
 use Rattle.mx_head.specs.Limits.{most_bytes}
 use Rattle.mx_exchange.specs.Order.{InOrder, most_read, asks_of}
 use Rattle.mx_types.specs.Code.{is_link_code}
-use Rattle.mx_exchange.specs.Endings.{IsUndecided}
+use Rattle.mx_exchange.specs.Endings.{IsUndecided, HasMore}
 
--- A hop. The parts are where the data of the body are in the wire; `location` is the value of the first Location line of its final
--- head, unless it is empty; `answers` are what the link answered since it was attached or probed, in order, and `is_reused` says whether
--- it was in use before.
+-- A hop. `limit` is the most bytes of content that were handed on as they came, and nothing where the response is held. The wire are the bytes of
+-- the response, of which memory has those that are `kept`; the parts are where the data of a held body are in the wire, and `content` are those
+-- that were handed on; `location` is the value of the first Location line of its final head, unless it is empty; `answers` are what the link
+-- answered since it was attached or probed, in order, and `is_reused` says whether it was in use before.
 pub record HopValue : Type 0 where
   pub request : RequestValue
+  pub limit : Option ℕ
   pub wire : List ℕ
+  pub kept : List ℕ
   pub code : Code
   pub status : ℕ
   pub parts : List Part
+  pub content : List ℕ
   pub location : Option (List ℕ)
   pub answers : List Answer
   pub is_reused : Bool
 
--- An exchange. `answers` are what its link answered since it was attached or probed, in order, and `attached` is the link as it was
--- then. `received` counts the bytes of the wire.
+-- An exchange. `limit` is the most bytes of content that it hands on, and nothing where it holds the response. `answers` are what its link
+-- answered since it was attached or probed, in order, and `attached` is the link as it was then. `received` counts the bytes of the wire, and
+-- `content` is what was handed on of them; once it has ended its hop has that.
 pub record ExchangeState (L : Type 0) : Type 0 where
   pub request : RequestValue
+  pub limit : Option ℕ
   pub link : Option L
   pub attached : Option L
   pub answers : List Answer
@@ -42,6 +50,7 @@ pub record ExchangeState (L : Type 0) : Type 0 where
   pub code : Option Code
   pub is_kept : Bool
   pub received : ℕ
+  pub content : List ℕ
 
 -- it needs a link, and no code was given in place of one
 abbrev pub WantsLink : {L : Type 0} → ExchangeState L → Type 0
@@ -66,10 +75,11 @@ clocked t = record t {
   deadline = if t.is_polled then t.deadline else first_deadline t.request t.moment;
 }
 
--- an exchange of the request, at its beginning
-abbrev pub begun : {L : Type 0} → RequestValue → ExchangeState L
-begun request = record {
+-- an exchange of the request, at its beginning, that holds the response or hands on at most so many bytes of content
+abbrev pub begun : {L : Type 0} → Option ℕ → RequestValue → ExchangeState L
+begun limit request = record {
   request = request;
+  limit = limit;
   link = None;
   attached = None;
   answers = [];
@@ -85,6 +95,7 @@ begun request = record {
   code = None;
   is_kept = false;
   received = 0;
+  content = [];
 }
 
 -- the exchange, once the link was handed over
@@ -108,6 +119,7 @@ dropped t = record t {
   needs_probe = false;
   needs_fresh = true;
   received = 0;
+  content = [];
 }
 
 -- rule redirect-deadline: The deadline is one for the whole chain.
@@ -126,6 +138,7 @@ renewed t request = record t {
   code = None;
   is_kept = false;
   received = 0;
+  content = [];
 }
 
 -- what is known of a link grew by this
@@ -139,15 +152,29 @@ abbrev pub KeepsToken : {L : Type 0} → (L → ℕ) → Option L → Option L �
 KeepsToken token_of (Some link) (Some next) = token_of next ≡ token_of link
 KeepsToken token_of _ _ = Unit {0}
 
+-- so many, held at the greatest number of 32 bits
+abbrev pub capped : ℕ → ℕ
+capped count = min count (2 ^ 32 - 1)
+
 -- what the link answered since it was attached or probed is what the exchange has of it, in order
 pub record IsServed {L : Type 0} (history : L → List Answer) (t : ExchangeState L) : Type 0 where
   pub told : LinkTold history t.attached t.link t.answers
   pub order : InOrder t.is_reused t.request.bytes t.answers
-  pub received : t.code ≡ None → t.received ≡ length (given t.answers)
+  pub received : t.code ≡ None → t.received ≡ capped (length (given t.answers))
 
--- the most bytes that a link gives: as many as may decide nothing yet, and one more read
+-- the most bytes that a link gives where they are held: as many as may decide nothing yet, and one more read
 abbrev pub most_received : ℕ
 most_received = most_bytes + most_read
+
+-- what one list has grown by was handed on, behind the other
+pub record HandsOver (was is before after : List ℕ) : Type 0 where
+  pub added : List ℕ
+  pub grown : is ≡ was ++ added
+  pub handed : after ≡ before ++ added
+
+-- what was handed on is the content among the bytes, of which nothing is decided
+abbrev pub IsHandedOn : Option ℕ → Method → List ℕ → List ℕ → Type 0
+IsHandedOn limit kind bytes content = (j : Judgement) × HasMore limit kind bytes j × (j.content ≡ content)
 
 -- What holds of every exchange.
 pub record IsExchange {L : Type 0} (history : L → List Answer) (asked : L → List ℕ) (token_of : L → ℕ) (t : ExchangeState L) : Type 0 where
@@ -156,7 +183,11 @@ pub record IsExchange {L : Type 0} (history : L → List Answer) (asked : L → 
   pub asked_for : LinkTold asked t.attached t.link (asks_of t.request.bytes t.answers)
   pub token : KeepsToken token_of t.attached t.link
   -- as long as it has not ended, what the link gave decides nothing
-  pub undecided : t.code ≡ None → IsUndecided t.request.method t.answers
+  pub undecided : t.code ≡ None → IsUndecided t.limit t.request.method t.answers
+  -- and what was handed on is the content among it
+  pub handed : t.code ≡ None → IsHandedOn t.limit t.request.method (given t.answers) t.content
+  -- where it holds the response nothing is handed on
+  pub held : t.limit ≡ None → t.content ≡ []
   -- a link that needs its probe was in use before, and was asked nothing
   pub unprobed : t.needs_probe ≡ true → (t.is_reused ≡ true) × (t.answers ≡ [])
   -- where only a fresh link is wanted, none that was in use before serves
@@ -164,4 +195,4 @@ pub record IsExchange {L : Type 0} (history : L → List Answer) (asked : L → 
   -- a code given in place of a link is one of these, and there is no link
   pub failed : IfSome t.failure (λ c. is_link_code c ≡ true)
   pub unlinked : IsSome t.failure → t.link ≡ None
-  pub bounded : t.received ≤ most_received
+  pub bounded : t.limit ≡ None → t.received ≤ most_received

@@ -1,5 +1,5 @@
 -- What holds of every link that serves a request, of every hop, and of every exchange's life.
-use Rattle.std.specs.Prelude.{◌≡◌, ℕ, ◌+◌, ◌≤◌, ◌⊎◌, ◌&&◌, Bool, true, false, List, [], ◌++◌, Some, is_some, is_none, if◌then◌else◌}
+use Rattle.std.specs.Prelude.{◌≡◌, ℕ, ◌+◌, ◌≤◌, ◌⊎◌, ◌&&◌, Bool, true, false, List, [], ◌++◌, Some, None, is_some, is_none, if◌then◌else◌}
 use Rattle.std.specs.List.{list_any}
 use Rattle.mx_types.specs.declared.code.Code.TheVariants as code
 use Rattle.mx_link.specs.Answers.{taken, is_read}
@@ -7,7 +7,7 @@ use Rattle.mx_link.specs.declared.answers.Answer.{Answer}
 use Rattle.mx_exchange.specs.Order.{InOrder}
 use Rattle.mx_exchange.specs.Exchanges.{HopValue, ExchangeState, clocked}
 use Rattle.mx_exchange.specs.Turns.{How, Turns}
-use Rattle.mx_exchange.specs.Hops.{IsHop, HasContent, is_hop_code}
+use Rattle.mx_exchange.specs.Hops.{IsHop, HasBody, HasContent, is_hop_code}
 
 -- what was taken is a prefix of the bytes, and all of them once the link was read
 pub record TakesFront (bytes : List ℕ) (answers : List Answer) : Type 0 where
@@ -18,9 +18,17 @@ pub record TakesFront (bytes : List ℕ) (answers : List Answer) : Type 0 where
 abbrev pub TakenIsTheFront : Type 0
 TakenIsTheFront = (reused : Bool) (bytes : List ℕ) (answers : List Answer) → InOrder reused bytes answers → TakesFront bytes answers
 
--- with code 0 the parts are the data of the response
+-- with code 0 the parts and what was handed on are the content of the response
+abbrev pub OkHasBody : Type 0
+OkHasBody = (o : HopValue) → IsHop o → o.code ≡ code.Ok → HasBody o
+
+-- and where it is held the parts are
 abbrev pub OkHasContent : Type 0
-OkHasContent = (o : HopValue) → IsHop o → o.code ≡ code.Ok → HasContent o
+OkHasContent = (o : HopValue) → IsHop o → o.code ≡ code.Ok → o.limit ≡ None → HasContent o
+
+-- where the response is held nothing is handed on, and memory has all its bytes
+abbrev pub HeldHasAll : Type 0
+HeldHasAll = (o : HopValue) → IsHop o → o.limit ≡ None → (o.content ≡ []) × (o.kept ≡ o.wire)
 
 -- a hop has one of the listed codes
 abbrev pub CodesAreListed : Type 0

@@ -1,13 +1,13 @@
 -- What the functions that ask a link promise one another.
-use Rattle.std.specs.Prelude.{◌≡◌, ◌≢◌, ℕ, ◌≤◌, Bool, true, false, List, [], ◌∷◌, ◌++◌, length, drop, ◌⊎◌, count_by}
+use Rattle.std.specs.Prelude.{◌≡◌, ◌≢◌, ℕ, ◌≤◌, Bool, true, false, List, [], ◌∷◌, ◌++◌, length, drop, Option, ◌⊎◌, count_by}
 use Rattle.std.specs.List.{list_any}
 use Rattle.mx_types.specs.declared.code.Code.{Code}
 use Rattle.mx_types.specs.declared.code.Code.TheVariants as code
 use Rattle.mx_types.specs.declared.method.Method.{Method}
 use Rattle.mx_request.specs.Request.{RequestValue}
-use Rattle.mx_body.specs.Decoder.{Decoded}
-use Rattle.mx_body.specs.declared.verdict.Verdict.{Verdict}
-use Rattle.mx_body.specs.declared.verdict.Verdict.TheVariants as verdict
+use Rattle.mx_body.specs.declared.decoder.Stand.TheVariants as stand
+use Rattle.mx_reader.specs.Judgements.{Judgement}
+use Rattle.mx_reader.specs.Readers.{ReaderValue, IsReader}
 use Rattle.mx_link.specs.Answers.{is_connect, given, taken, is_read, is_write, is_blocked}
 use Rattle.mx_link.specs.declared.answers.Answer.{Answer}
 use Rattle.mx_link.specs.declared.answers.Answer.TheVariants as said
@@ -15,6 +15,7 @@ use Rattle.mx_link.specs.declared.answers.Write.{Write}
 use Rattle.mx_link.specs.declared.answers.Write.TheVariants as write
 use Rattle.mx_exchange.specs.Order.{InOrder, stands, is_last, asks_of, most_turn_reads, most_turn_writes}
 use Rattle.mx_exchange.specs.Endings.{IsUndecided, EndsBy, MustRetry}
+use Rattle.mx_exchange.specs.Exchanges.{HandsOver}
 use Rattle.mx_exchange.specs.declared.calls.Step.{Step}
 use Rattle.mx_exchange.specs.declared.calls.Step.TheVariants as step
 use Rattle.mx_exchange.specs.declared.calls.Halt.{Halt}
@@ -69,22 +70,29 @@ IsProbed history asked old new false =
     (answer : Answer) × ProbedBy history asked old new answer × (answer ≢ said.ReadBlocked)
     × (new ≡ record old { link = new.link; answers = answer ∷ []; needs_probe = false; is_stale = true })
 
--- what is known of a decoder as long as nothing is decided: it has what the link gave
-pub record IsGoing (kind : Method) (answers : List Answer) (d : Decoded) : Type 0 where
-  pub method : d.method ≡ kind
-  pub wire : d.wire ≡ given answers
-  pub unended : d.ended ≡ false
-  pub more : d.verdict ≡ verdict.More
-  pub undecided : IsUndecided kind answers
+-- what is known of a reader as long as nothing is decided: it was fed what the link gave
+pub record IsGoing (kind : Method) (answers : List Answer) (r : ReaderValue) : Type 0 where
+  pub exact : IsReader r
+  pub method : r.method ≡ kind
+  pub wire : r.wire ≡ given answers
+  pub unended : r.ended ≡ false
+  pub more : r.judgement.stand ≡ stand.More
+  pub undecided : IsUndecided r.limit kind answers
 
 -- how it ended
-pub record IsOver (kind : Method) (reused : Bool) (answers : List Answer) (d : Decoded) (c : Code) : Type 0 where
-  pub cause : EndsBy kind answers d.wire d.verdict c
+pub record IsOver (kind : Method) (reused : Bool) (answers : List Answer) (r : ReaderValue) (c : Code) : Type 0 where
+  pub exact : IsReader r
+  pub cause : EndsBy r.limit kind answers r.wire r.judgement c
   pub final : ¬ (MustRetry kind reused answers)
 
 -- the link may be handed out: what it gave has a whole response
 abbrev pub MayHandOut : {L : Type 0} → LineState L → Type 0
-MayHandOut l = (wire : List ℕ) × (v : Verdict) × EndsBy l.request.method l.answers wire v code.Ok
+MayHandOut l = (limit : Option ℕ) × (wire : List ℕ) × (j : Judgement) × EndsBy limit l.request.method l.answers wire j code.Ok
+
+-- what the content has grown by was handed on
+pub record ReadsOn (old new : ReaderValue) (before after : List ℕ) : Type 0 where
+  pub limit : new.limit ≡ old.limit
+  pub hands : HandsOver old.judgement.content new.judgement.content before after
 
 -- only the link has changed, by these further answers
 abbrev pub Grows : {L : Type 0} → LineState L → LineState L → List Answer → Type 0
@@ -92,32 +100,32 @@ Grows old new more =
     new ≡ record old { link = new.link; answers = old.answers ++ more; stands = new.stands; written = new.written }
 
 -- the result of one answer
-abbrev pub StepSo : Step → Method → Bool → Bool → List Answer → Decoded → Answer → Type 0
-StepSo step.Connected kind reused stood answers d answer =
-    IsGoing kind answers d × (is_connect answer ≡ true) × (stood ≡ true)
-StepSo step.Wrote kind reused stood answers d answer = IsGoing kind answers d × (is_write answer ≡ true)
-StepSo step.Heard kind reused stood answers d answer = IsGoing kind answers d × (is_read answer ≡ true)
-StepSo step.Blocked kind reused stood answers d answer = IsGoing kind answers d × (is_blocked answer ≡ true)
-StepSo step.Lost kind reused stood answers d answer = MustRetry kind reused answers
-StepSo (step.Over c) kind reused stood answers d answer = IsOver kind reused answers d c
+abbrev pub StepSo : Step → Method → Bool → Bool → List Answer → ReaderValue → Answer → Type 0
+StepSo step.Connected kind reused stood answers r answer =
+    IsGoing kind answers r × (is_connect answer ≡ true) × (stood ≡ true)
+StepSo step.Wrote kind reused stood answers r answer = IsGoing kind answers r × (is_write answer ≡ true)
+StepSo step.Heard kind reused stood answers r answer = IsGoing kind answers r × (is_read answer ≡ true)
+StepSo step.Blocked kind reused stood answers r answer = IsGoing kind answers r × (is_blocked answer ≡ true)
+StepSo step.Lost kind reused stood answers r answer = MustRetry kind reused answers × (r.judgement.content ≡ [])
+StepSo (step.Over c) kind reused stood answers r answer = IsOver kind reused answers r c
 
 -- one call on the link
-pub record StepsTo {L : Type 0} (old new : LineState L) (how : Step) (d : Decoded) : Type 0 where
+pub record StepsTo {L : Type 0} (old new : LineState L) (how : Step) (r : ReaderValue) : Type 0 where
   pub answer : Answer
   pub grows : Grows old new (answer ∷ [])
   pub unmade : is_connect answer ≡ true → old.stands ≡ false
   pub kept : old.stands ≡ true → new.stands ≡ true
-  pub so : StepSo how old.request.method old.is_reused new.stands new.answers d answer
+  pub so : StepSo how old.request.method old.is_reused new.stands new.answers r answer
 
 -- how a turn ends
-abbrev pub HaltSo : Halt → Method → Bool → List Answer → Decoded → List Answer → Type 0
-HaltSo halt.Blocked kind reused answers d more =
-    IsGoing kind answers d
+abbrev pub HaltSo : Halt → Method → Bool → List Answer → ReaderValue → List Answer → Type 0
+HaltSo halt.Blocked kind reused answers r more =
+    IsGoing kind answers r
     × ((earlier : List Answer) × (last : Answer) × (more ≡ earlier ++ last ∷ []) × (is_blocked last ≡ true))
-HaltSo halt.Unfinished kind reused answers d more =
-    IsGoing kind answers d × ((count_by is_read more ≡ most_turn_reads) ⊎ (count_by is_write more ≡ most_turn_writes))
-HaltSo halt.Lost kind reused answers d more = MustRetry kind reused answers
-HaltSo (halt.Over c) kind reused answers d more = IsOver kind reused answers d c
+HaltSo halt.Unfinished kind reused answers r more =
+    IsGoing kind answers r × ((count_by is_read more ≡ most_turn_reads) ⊎ (count_by is_write more ≡ most_turn_writes))
+HaltSo halt.Lost kind reused answers r more = MustRetry kind reused answers × (r.judgement.content ≡ [])
+HaltSo (halt.Over c) kind reused answers r more = IsOver kind reused answers r c
 
 -- so many calls were made
 pub record Calls (more : List Answer) (connects reads writes : ℕ) : Type 0 where
@@ -126,14 +134,14 @@ pub record Calls (more : List Answer) (connects reads writes : ℕ) : Type 0 whe
   pub writes_are : count_by is_write more ≡ writes
 
 -- the calls of one turn on the link
-pub record ServesTo {L : Type 0} (old new : LineState L) (how : Halt) (d : Decoded) : Type 0 where
+pub record ServesTo {L : Type 0} (old new : LineState L) (how : Halt) (r : ReaderValue) : Type 0 where
   pub more : List Answer
   pub grows : Grows old new more
   pub asked : more ≢ []
   pub connects : count_by is_connect more ≤ 1
   pub reads : count_by is_read more ≤ most_turn_reads
   pub writes : count_by is_write more ≤ most_turn_writes
-  pub so : HaltSo how old.request.method old.is_reused new.answers d more
+  pub so : HaltSo how old.request.method old.is_reused new.answers r more
 
 -- how many bytes a write took
 abbrev pub taken_count : Write → ℕ

@@ -6,8 +6,11 @@ use Rattle.mx_request.specs.Request.{RequestValue}
 use Rattle.mx_link.specs.declared.answers.Answer.{Answer}
 use Rattle.mx_exchange.specs.Lines.{LineState, IsLine, IsGoing, MayHandOut}
 use Rattle.mx_exchange.specs.Endings.{is_stop_code}
-use Rattle.mx_exchange.specs.Exchanges.{ExchangeState, IsDue, most_received}
+use Rattle.mx_exchange.specs.Exchanges.{ExchangeState, IsDue, capped, most_received}
 use Rattle.mx_exchange.specs.Turns.{IsOnTime, MayTouch}
+use Rattle.mx_flow.specs.Streams.{limit_of}
+use Rattle.mx_exchange.specs.declared.delivery.Delivery.{Delivery}
+use Rattle.mx_exchange.specs.declared.delivery.Delivery.TheVariants as delivery
 use Rattle.mx_exchange.specs.declared.exchanges.turns.Before.{Before}
 use Rattle.mx_exchange.specs.declared.exchanges.turns.Before.TheVariants as before
 use Rattle.mx_exchange.specs.declared.exchanges.stages.Live.{Live}
@@ -31,7 +34,12 @@ reused_of line = unwrap_or (option_map (λ l. l.is_reused) line) false
 abbrev pub probe_of : {L : Type 0} → Option (LineState L) → Bool
 probe_of line = unwrap_or (option_map (λ l. l.needs_probe) line) false
 
--- the link of a stage, its code, whether the link may be taken, and how many bytes came
+-- the most bytes of content that are handed on, and nothing where the response is held
+abbrev pub limit_by : Delivery → Option ℕ
+limit_by delivery.Held = None
+limit_by (delivery.Flowing most_bytes) = Some (limit_of most_bytes)
+
+-- the link of a stage, its code, whether the link may be taken, how many bytes came, and what was handed on of them
 abbrev pub line_of : {L : Type 0} → Stage L → Option (LineState L)
 line_of (stage.Live o) = o.line
 line_of (stage.Ended e) = e.line
@@ -45,8 +53,12 @@ kept_of (stage.Live o) = false
 kept_of (stage.Ended e) = e.is_kept
 
 abbrev pub received_of : {L : Type 0} → Stage L → ℕ
-received_of (stage.Live o) = length o.decoder.wire
+received_of (stage.Live o) = capped (length o.reader.wire)
 received_of (stage.Ended e) = e.received
+
+abbrev pub content_of : {L : Type 0} → Stage L → List ℕ
+content_of (stage.Live o) = o.reader.judgement.content
+content_of (stage.Ended e) = []
 
 -- the exchange, as it goes on with this
 abbrev pub alive : {L : Type 0} → ExchangeState L → Live L → ExchangeState L
@@ -58,7 +70,8 @@ alive t o = record t {
   needs_probe = probe_of o.line;
   code = None;
   is_kept = false;
-  received = length o.decoder.wire;
+  received = capped (length o.reader.wire);
+  content = o.reader.judgement.content;
 }
 
 -- the exchange, as it has ended with this
@@ -72,6 +85,7 @@ over t e = record t {
   code = Some e.code;
   is_kept = e.is_kept;
   received = e.received;
+  content = [];
 }
 
 -- What is known of a link that serves: it is one of this request, it isn't stale, and it was never in use where only a fresh one is
@@ -84,20 +98,21 @@ pub record IsServing {L : Type 0} (history : L → List Answer) (asked : L → L
   pub wanted : failure ≡ None
 
 -- what is known of an exchange that goes on
-pub record IsAlive {L : Type 0} (history : L → List Answer) (asked : L → List ℕ) (token_of : L → ℕ) (request : RequestValue) (fresh : Bool) (failure : Option Code) (o : Live L) : Type 0 where
+pub record IsAlive {L : Type 0} (history : L → List Answer) (asked : L → List ℕ) (token_of : L → ℕ) (request : RequestValue) (limit : Option ℕ) (fresh : Bool) (failure : Option Code) (o : Live L) : Type 0 where
   pub about : o.request ≡ request
-  pub going : IsGoing request.method (answers_of o.line) o.decoder
+  pub limit_is : o.reader.limit ≡ limit
+  pub going : IsGoing request.method (answers_of o.line) o.reader
   pub serves : IfSome o.line (IsServing history asked token_of request fresh failure)
 
 -- what is known of one that has ended
-pub record IsEnded {L : Type 0} (history : L → List Answer) (asked : L → List ℕ) (token_of : L → ℕ) (request : RequestValue) (fresh : Bool) (failure : Option Code) (e : Ended L) : Type 0 where
+pub record IsEnded {L : Type 0} (history : L → List Answer) (asked : L → List ℕ) (token_of : L → ℕ) (request : RequestValue) (limit : Option ℕ) (fresh : Bool) (failure : Option Code) (e : Ended L) : Type 0 where
   pub serves : IfSome e.line (IsServing history asked token_of request fresh failure)
   pub kept : e.is_kept ≡ true → IfSome e.line MayHandOut
-  pub bounded : e.received ≤ most_received
+  pub bounded : limit ≡ None → e.received ≤ most_received
 
-abbrev pub IsStage : {L : Type 0} → (L → List Answer) → (L → List ℕ) → (L → ℕ) → RequestValue → Bool → Option Code → Stage L → Type 0
-IsStage history asked token_of request fresh failure (stage.Live o) = IsAlive history asked token_of request fresh failure o
-IsStage history asked token_of request fresh failure (stage.Ended e) = IsEnded history asked token_of request fresh failure e
+abbrev pub IsStage : {L : Type 0} → (L → List Answer) → (L → List ℕ) → (L → ℕ) → RequestValue → Option ℕ → Bool → Option Code → Stage L → Type 0
+IsStage history asked token_of request limit fresh failure (stage.Live o) = IsAlive history asked token_of request limit fresh failure o
+IsStage history asked token_of request limit fresh failure (stage.Ended e) = IsEnded history asked token_of request limit fresh failure e
 
 -- what comes before the link in a turn: it ends with this code, or it is paused
 abbrev pub ComesBefore : {L : Type 0} → ExchangeState L → Before → Type 0

@@ -1,17 +1,17 @@
 -- What one turn of an exchange does.
-use Rattle.std.specs.Prelude.{◌≡◌, ◌≢◌, ◌≤◌, Bool, true, false, List, [], ◌∷◌, ◌++◌, length, Some, None, ◌⊎◌, count_by}
+use Rattle.std.specs.Prelude.{◌≡◌, ◌≢◌, ℕ, ◌≤◌, Bool, true, false, List, [], ◌∷◌, ◌++◌, length, Some, None, ◌⊎◌, count_by}
 use Rattle.mx_types.specs.declared.code.Code.TheVariants as code
 use Rattle.mx_body.specs.Decision.{HasStatus}
-use Rattle.mx_body.specs.Decoder.{parts_of}
-use Rattle.mx_body.specs.declared.verdict.Verdict.{Verdict}
+use Rattle.mx_reader.specs.Judgements.{Judgement}
+use Rattle.mx_reader.specs.Readers.{may_keep}
 use Rattle.mx_link.specs.Answers.{is_connect, is_read, is_write, is_blocked, given}
 use Rattle.mx_link.specs.declared.answers.Answer.{Answer}
 use Rattle.mx_link.specs.declared.answers.Answer.TheVariants as said
 use Rattle.mx_exchange.specs.declared.exchanges.turns.Turned.{Turned}
 use Rattle.mx_exchange.specs.declared.exchanges.turns.Turned.TheVariants as went
 use Rattle.mx_exchange.specs.Order.{InOrder, most_turn_reads, most_turn_writes}
-use Rattle.mx_exchange.specs.Endings.{EndsBy, MustRetry, may_keep}
-use Rattle.mx_exchange.specs.Exchanges.{HopValue, ExchangeState, IsDue, LinkTold, dropped}
+use Rattle.mx_exchange.specs.Endings.{EndsBy, MustRetry}
+use Rattle.mx_exchange.specs.Exchanges.{HopValue, ExchangeState, IsDue, LinkTold, capped, dropped}
 
 -- no deadline has come, and no code was given in place of a link
 abbrev pub IsOnTime : {L : Type 0} → ExchangeState L → Type 0
@@ -64,9 +64,10 @@ pub record Answered {L : Type 0} (history : L → List Answer) (t new : Exchange
   pub reads : count_by is_read more ≤ most_turn_reads
   pub writes : count_by is_write more ≤ most_turn_writes
 
--- only the link and its answers have changed, and the bytes received are those that it gave
+-- only the link, its answers and what was handed on of them have changed, and the bytes received are those that it gave
 abbrev pub GoesOn : {L : Type 0} → ExchangeState L → ExchangeState L → Type 0
-GoesOn t new = new ≡ record t { link = new.link; answers = new.answers; received = length (given new.answers) }
+GoesOn t new =
+    new ≡ record t { link = new.link; answers = new.answers; received = capped (length (given new.answers)); content = new.content }
 
 -- the last answer would have waited
 abbrev pub EndsBlocked : List Answer → Type 0
@@ -75,10 +76,18 @@ EndsBlocked more = (earlier : List Answer) × (last : Answer) × (more ≡ earli
 -- it has ended with the hop
 pub record EndsWith {L : Type 0} (t new : ExchangeState L) (o : HopValue) : Type 0 where
   pub request : o.request ≡ t.request
+  pub limit : o.limit ≡ t.limit
   pub status : HasStatus o.wire o.status
   pub answers : o.answers ≡ new.answers
   pub reused : o.is_reused ≡ t.is_reused
-  pub after : new ≡ record t { link = new.link; answers = new.answers; code = Some o.code; is_kept = new.is_kept; received = length o.wire }
+  pub after : new ≡ record t {
+    link = new.link;
+    answers = new.answers;
+    code = Some o.code;
+    is_kept = new.is_kept;
+    received = capped (length o.wire);
+    content = [];
+  }
 
 -- it has ended untouched, with no body and no link to keep
 pub record StopsWith {L : Type 0} (t new : ExchangeState L) (o : HopValue) : Type 0 where
@@ -88,14 +97,18 @@ pub record StopsWith {L : Type 0} (t new : ExchangeState L) (o : HopValue) : Typ
   pub unkept : new.is_kept ≡ false
   pub wire : o.wire ≡ given t.answers
   pub parts : o.parts ≡ []
+  pub content : o.content ≡ t.content
 
+-- rule exchange-kept-link: A link may serve again where the response says so and is all that was read.
+--
 -- it has ended over its link
 pub record EndsOver {L : Type 0} (t new : ExchangeState L) (o : HopValue) : Type 0 where
   pub ends : EndsWith t new o
-  pub verdict : Verdict
-  pub cause : EndsBy t.request.method new.answers o.wire verdict o.code
-  pub parts : o.parts ≡ parts_of verdict
-  pub kept : new.is_kept ≡ may_keep verdict o.wire
+  pub judgement : Judgement
+  pub cause : EndsBy t.limit t.request.method new.answers o.wire judgement o.code
+  pub parts : o.parts ≡ judgement.parts
+  pub content : o.content ≡ judgement.content
+  pub kept : new.is_kept ≡ may_keep judgement o.wire
 
 -- the result of a turn: it waits, it asks for another turn, or it ends
 pub data How : Type 0 where
@@ -131,6 +144,11 @@ abbrev pub how_of : Turned → How
 how_of went.Waits = waits
 how_of went.Asks = asks
 how_of (went.Ended o) = ends o
+
+-- what was handed on: the hop has it, where the turn ended it
+abbrev pub content_by : {L : Type 0} → ExchangeState L → How → List ℕ
+content_by new (ends o) = o.content
+content_by new _ = new.content
 
 -- this holds for the hop, where the turn ended it
 abbrev pub IfEnded : Turned → (HopValue → Type 0) → Type 0

@@ -2,12 +2,13 @@
 ghost use Rattle.std.specs.Prelude.{◌≡◌, ◌↔◌, IsTrue, true, false, ◌<◌, [], length};
 ghost use Rattle.mx_types.specs.Method.{is_repeatable};
 ghost use Rattle.mx_exchange.specs.Order.{most_read};
-ghost use Rattle.mx_exchange.specs.Lines.{IsLine, IsOpen, IsGoing, StepsTo, ServesTo};
+ghost use Rattle.mx_exchange.specs.Lines.{IsLine, IsOpen, IsGoing, ReadsOn, StepsTo, ServesTo};
 
 use crate::buffers::{READ_BYTES, ReadBuffer};
 use crate::lines::Line;
-use mx_body::{Decoder, Stand};
+use mx_body::Stand;
 use mx_link::{Connect, Link, Read, Write};
+use mx_reader::Reader;
 use mx_request::Request;
 use mx_types::{Code, Method};
 
@@ -47,10 +48,10 @@ pub(crate) enum Halt {
 
 // rule exchange-retry
 /// Whether a request of that method is sent again where a reused link is lost before it gave a byte.
-fn may_retry(method: Method, is_reused: bool, decoder: &Decoder) -> bool
-    ensures { IsTrue result ↔ ((is_reused ≡ true) × (is_repeatable method ≡ true) × (decoder.now.wire ≡ [])) }
+fn may_retry(method: Method, is_reused: bool, reader: &Reader) -> bool
+    ensures { IsTrue result ↔ ((is_reused ≡ true) × (is_repeatable method ≡ true) × (reader.now.wire ≡ [])) }
 {
-    if !is_reused || !decoder.wire().is_empty() {
+    if !is_reused || !reader.is_unfed() {
         return false;
     }
     method.is_repeatable()
@@ -59,12 +60,12 @@ fn may_retry(method: Method, is_reused: bool, decoder: &Decoder) -> bool
 impl<L: Link> Line<L> {
     // rule exchange-connect
     /// Checks whether the connection is made.
-    fn connect_step(&mut self, decoder: &Decoder) -> Step
+    fn connect_step(&mut self, reader: &Reader) -> Step
         requires open { IsOpen self.old }
-        requires going { IsGoing self.old.request.method self.old.answers decoder.now }
+        requires going { IsGoing self.old.request.method self.old.answers reader.now }
         requires unmade { self.old.stands ≡ false }
         ensures line { IsLine L.history L.asked L.token_of self.new }
-        ensures turn { StepsTo self.old self.new result decoder.now }
+        ensures turn { StepsTo self.old self.new result reader.now }
     {
         match self.connect() {
             Connect::Done => Step::Connected,
@@ -74,20 +75,20 @@ impl<L: Link> Line<L> {
     }
 
     /// Writes what the link has not taken.
-    fn write_step(&mut self, request: &Request, decoder: &Decoder) -> Step
+    fn write_step(&mut self, request: &Request, reader: &Reader) -> Step
         requires open { IsOpen self.old }
-        requires going { IsGoing self.old.request.method self.old.answers decoder.now }
+        requires going { IsGoing self.old.request.method self.old.answers reader.now }
         requires about { self.old.request ≡ request.now }
         requires made { self.old.stands ≡ true }
         requires unsent { self.old.written < length request.now.bytes }
         ensures line { IsLine L.history L.asked L.token_of self.new }
-        ensures turn { StepsTo self.old self.new result decoder.now }
+        ensures turn { StepsTo self.old self.new result reader.now }
     {
         match self.write(request) {
             Write::Bytes(_) => Step::Wrote,
             Write::WouldBlock => Step::Blocked,
             Write::Fault => {
-                if may_retry(request.method(), self.is_reused(), decoder) {
+                if may_retry(request.method(), self.is_reused(), reader) {
                     return Step::Lost;
                 }
                 Step::Over(Code::SendError)
@@ -95,20 +96,27 @@ impl<L: Link> Line<L> {
         }
     }
 
-    /// Reads, and decodes what came.
-    fn read_step(&mut self, request: &Request, decoder: &mut Decoder, buffer: &mut [u8]) -> Step
+    /// Reads, and feeds what came.
+    fn read_step(
+        &mut self,
+        request: &Request,
+        reader: &mut Reader,
+        buffer: &mut [u8],
+        out: &mut Vec<u8>,
+    ) -> Step
         requires open { IsOpen self.old }
-        requires going { IsGoing self.old.request.method self.old.answers decoder.old }
+        requires going { IsGoing self.old.request.method self.old.answers reader.old }
         requires about { self.old.request ≡ request.now }
         requires made { self.old.stands ≡ true }
         requires sent { self.old.written ≡ length request.now.bytes }
         requires room { length buffer.old ≡ most_read }
         ensures room { length buffer.new ≡ length buffer.old }
         ensures line { IsLine L.history L.asked L.token_of self.new }
-        ensures turn { StepsTo self.old self.new result decoder.new }
+        ensures turn { StepsTo self.old self.new result reader.new }
+        ensures handed { ReadsOn reader.old reader.new out.old.items out.new.items }
     {
         match self.read(buffer) {
-            Read::Bytes(n) => match decoder.feed(&buffer[..n]) {
+            Read::Bytes(n) => match reader.feed(&buffer[..n], out) {
                 Ok(Stand::More) => Step::Heard,
                 Ok(Stand::Complete) => Step::Over(Code::Ok),
                 Ok(Stand::Fault(code)) => Step::Over(code),
@@ -116,11 +124,11 @@ impl<L: Link> Line<L> {
             },
             Read::WouldBlock => Step::Blocked,
             Read::End => {
-                // Before the decoder learns of the end, so that being out of memory can't take the place of a retry.
-                if may_retry(request.method(), self.is_reused(), decoder) {
+                // Before the reader learns of the end, so that being out of memory can't take the place of a retry.
+                if may_retry(request.method(), self.is_reused(), reader) {
                     return Step::Lost;
                 }
-                match decoder.end() {
+                match reader.end() {
                     Ok(Stand::More) => unreachable!(),
                     Ok(Stand::Complete) => Step::Over(Code::Ok),
                     Ok(Stand::Fault(code)) => Step::Over(code),
@@ -128,7 +136,7 @@ impl<L: Link> Line<L> {
                 }
             }
             Read::Fault => {
-                if may_retry(request.method(), self.is_reused(), decoder) {
+                if may_retry(request.method(), self.is_reused(), reader) {
                     return Step::Lost;
                 }
                 Step::Over(Code::RecvError)
@@ -137,38 +145,53 @@ impl<L: Link> Line<L> {
     }
 
     /// The one call that comes next.
-    fn ask_next(&mut self, request: &Request, decoder: &mut Decoder, buffer: &mut [u8]) -> Step
+    fn ask_next(
+        &mut self,
+        request: &Request,
+        reader: &mut Reader,
+        buffer: &mut [u8],
+        out: &mut Vec<u8>,
+    ) -> Step
         requires open { IsOpen self.old }
-        requires going { IsGoing self.old.request.method self.old.answers decoder.old }
+        requires going { IsGoing self.old.request.method self.old.answers reader.old }
         requires about { self.old.request ≡ request.now }
         requires room { length buffer.old ≡ most_read }
         ensures room { length buffer.new ≡ length buffer.old }
         ensures line { IsLine L.history L.asked L.token_of self.new }
-        ensures turn { StepsTo self.old self.new result decoder.new }
+        ensures turn { StepsTo self.old self.new result reader.new }
+        ensures handed { ReadsOn reader.old reader.new out.old.items out.new.items }
     {
         if !self.stands() {
-            return self.connect_step(decoder);
+            return self.connect_step(reader);
         }
         if !self.is_sent(request) {
-            return self.write_step(request, decoder);
+            return self.write_step(request, reader);
         }
-        self.read_step(request, decoder, buffer)
+        self.read_step(request, reader, buffer, out)
     }
 
     // rule exchange-turn-limits
-    /// One turn: it connects, writes the request and reads the response into this buffer, as far as the link goes.
-    fn serve_into(&mut self, request: &Request, decoder: &mut Decoder, buffer: &mut [u8]) -> Halt
+    /// One turn: it connects, writes the request and reads the response into this buffer, as far as the link goes. Content that is handed on
+    /// goes to `out`.
+    fn serve_into(
+        &mut self,
+        request: &Request,
+        reader: &mut Reader,
+        buffer: &mut [u8],
+        out: &mut Vec<u8>,
+    ) -> Halt
         requires open { IsOpen self.old }
-        requires going { IsGoing self.old.request.method self.old.answers decoder.old }
+        requires going { IsGoing self.old.request.method self.old.answers reader.old }
         requires about { self.old.request ≡ request.now }
         requires room { length buffer.old ≡ most_read }
         ensures line { IsLine L.history L.asked L.token_of self.new }
-        ensures turn { ServesTo self.old self.new result decoder.new }
+        ensures turn { ServesTo self.old self.new result reader.new }
+        ensures handed { ReadsOn reader.old reader.new out.old.items out.new.items }
     {
         let mut reads = 0;
         let mut writes = 0;
         for turn in 0..MOST_CALLS {
-            match self.ask_next(request, decoder, buffer) {
+            match self.ask_next(request, reader, buffer, out) {
                 Step::Connected => {}
                 Step::Wrote => {
                     writes += 1;
@@ -191,33 +214,41 @@ impl<L: Link> Line<L> {
     }
 
     // The same, with a buffer of this turn. It is apart, since a function clears its buffers at its entry, and most turns need none.
-    fn serve_bufferless(&mut self, request: &Request, decoder: &mut Decoder) -> Halt
+    fn serve_bufferless(
+        &mut self,
+        request: &Request,
+        reader: &mut Reader,
+        out: &mut Vec<u8>,
+    ) -> Halt
         requires open { IsOpen self.old }
-        requires going { IsGoing self.old.request.method self.old.answers decoder.old }
+        requires going { IsGoing self.old.request.method self.old.answers reader.old }
         requires about { self.old.request ≡ request.now }
         ensures line { IsLine L.history L.asked L.token_of self.new }
-        ensures turn { ServesTo self.old self.new result decoder.new }
+        ensures turn { ServesTo self.old self.new result reader.new }
+        ensures handed { ReadsOn reader.old reader.new out.old.items out.new.items }
     {
-        self.serve_into(request, decoder, &mut [0; READ_BYTES])
+        self.serve_into(request, reader, &mut [0; READ_BYTES], out)
     }
 
     /// One turn: it connects, writes the request and reads the response, as far as the link goes. It uses the kept buffer, which it makes
-    /// at first; where memory for that is refused, it uses one of this turn.
+    /// at first; where memory for that is refused, it uses one of this turn. Content that is handed on goes to `out`.
     pub(crate) fn serve(
         &mut self,
         request: &Request,
-        decoder: &mut Decoder,
+        reader: &mut Reader,
         kept: &mut ReadBuffer,
+        out: &mut Vec<u8>,
     ) -> Halt
         requires open { IsOpen self.old }
-        requires going { IsGoing self.old.request.method self.old.answers decoder.old }
+        requires going { IsGoing self.old.request.method self.old.answers reader.old }
         requires about { self.old.request ≡ request.now }
         ensures line { IsLine L.history L.asked L.token_of self.new }
-        ensures turn { ServesTo self.old self.new result decoder.new }
+        ensures turn { ServesTo self.old self.new result reader.new }
+        ensures handed { ReadsOn reader.old reader.new out.old.items out.new.items }
     {
         if kept.make() {
-            return self.serve_into(request, decoder, kept.bytes.as_mut_slice());
+            return self.serve_into(request, reader, kept.bytes.as_mut_slice(), out);
         }
-        self.serve_bufferless(request, decoder)
+        self.serve_bufferless(request, reader, out)
     }
 }

@@ -2,11 +2,14 @@
 ghost use Rattle.std.specs.Prelude.{◌≡◌, true, false, [], Some, None, IsSome, IfSome, is_some, option_map, ◌↔◌, if◌then◌else◌};
 ghost use Rattle.mx_exchange.specs.Exchanges.{IsExchange, WantsLink, begun, attached, renewed};
 ghost use Rattle.mx_types.specs.Code.{is_link_code};
+ghost use Rattle.mx_exchange.specs.Stages.{limit_by};
+ghost use Rattle.mx_flow.specs.Streams.{limit_of};
 
 mod stages;
 pub(crate) mod turns;
 
 use crate::buffers::ReadBuffer;
+use crate::delivery::Delivery;
 use crate::exchanges::stages::{Live, Stage, received};
 use crate::lines::Line;
 use mx_link::Link;
@@ -29,6 +32,7 @@ pub struct Want<'a> {
 /// A request and the link that serves it, if one does.
 pub struct Exchange<L: Link> {
     alloc: Global,
+    delivery: Delivery,
     about: Snapshot<Request>,
     stage: Stage<L>,
     needs_fresh: bool,
@@ -46,6 +50,7 @@ impl<L: Link> Drop for Exchange<L> {
     fn drop(self) {
         let Exchange {
             alloc: _,
+            delivery: _,
             about,
             stage,
             needs_fresh: _,
@@ -67,12 +72,13 @@ impl<L: Link> Model for Exchange<L> {
     ghost use Rattle.std.specs.Prelude.{◌≡◌, true, IfSome};
     ghost use Rattle.mx_types.specs.Code.{is_link_code};
     ghost use Rattle.mx_exchange.specs.Exchanges.{ExchangeState};
-    ghost use Rattle.mx_exchange.specs.Stages.{link_of, attached_of, answers_of, reused_of, probe_of, line_of, code_of, kept_of, received_of, IsStage};
+    ghost use Rattle.mx_exchange.specs.Stages.{limit_by, link_of, attached_of, answers_of, reused_of, probe_of, line_of, code_of, kept_of, received_of, content_of, IsStage};
 
     ghost Value = { ExchangeState L };
 
     ghost view = { λ t. record {
       request = t.about.value;
+      limit = limit_by t.delivery;
       link = link_of (line_of t.stage);
       attached = attached_of (line_of t.stage);
       answers = answers_of (line_of t.stage);
@@ -88,24 +94,41 @@ impl<L: Link> Model for Exchange<L> {
       code = code_of t.stage;
       is_kept = kept_of t.stage;
       received = received_of t.stage;
+      content = content_of t.stage;
     } };
 
     ghost invariant = { λ t. record {
-      stage : IsStage L.history L.asked L.token_of t.about.value t.needs_fresh t.failure t.stage;
+      stage : IsStage L.history L.asked L.token_of t.about.value (limit_by t.delivery) t.needs_fresh t.failure t.stage;
       failed : IfSome t.failure (λ c. is_link_code c ≡ true);
     } };
 }
 
 impl<L: Link> Exchange<L> {
-    /// An exchange of the request. It takes no memory; what its turns grow comes from `alloc`.
+    /// An exchange of the request, which holds the response. It takes no memory; what its turns grow comes from `alloc`.
     pub fn new(alloc: Global, request: Request) -> Exchange<L>
-        ensures { result ≡ begun request }
+        ensures { result ≡ begun None request }
+    {
+        Exchange::make(alloc, request, Delivery::Held)
+    }
+
+    /// The same, which keeps the heads alone and hands the content on as it comes. That may have `most_bytes` bytes, and never more than
+    /// 9,223,372,036,854,775,807, which is also the limit where there is none.
+    pub fn flowing(alloc: Global, request: Request, most_bytes: Option<u64>) -> Exchange<L>
+        ensures { result ≡ begun (Some (limit_of most_bytes)) request }
+    {
+        Exchange::make(alloc, request, Delivery::Flowing(most_bytes))
+    }
+
+    // An exchange of the request, and what becomes of the body.
+    fn make(alloc: Global, request: Request, delivery: Delivery) -> Exchange<L>
+        ensures { result ≡ begun (limit_by delivery) request }
     {
         let about = Snapshot::of(&request);
         Exchange {
             alloc,
+            delivery,
             about,
-            stage: Stage::Live(Live::new(alloc, request)),
+            stage: Stage::Live(Live::new(alloc, request, delivery)),
             needs_fresh: false,
             is_started: false,
             failure: None,
@@ -124,6 +147,7 @@ impl<L: Link> Exchange<L> {
     {
         let Exchange {
             alloc: _,
+            delivery: _,
             about,
             stage,
             needs_fresh: _,
@@ -161,7 +185,7 @@ impl<L: Link> Exchange<L> {
         ensures { self.new ≡ renewed self.old request }
     {
         self.about = Snapshot::of(&request);
-        let live = Live::new(self.alloc, request);
+        let live = Live::new(self.alloc, request, self.delivery);
         drop(mem::replace(&mut self.stage, Stage::Live(live)));
         self.needs_fresh = false;
         self.failure = None;
@@ -233,16 +257,15 @@ impl<L: Link> Exchange<L> {
         self.deadline
     }
 
-    /// How many bytes of a response its link has given: those of the wire. They are at most 67,108,864, which may decide nothing yet, and
-    /// those of one more read, at most 16,384.
+    /// How many bytes of a response its link has given: those of the wire, held at 4,294,967,295. Of one that is held they are at most
+    /// 67,108,864, which may decide nothing yet, and those of one more read, at most 16,384.
     pub fn received(&self) -> u32
         ensures { result ≡ self.now.received }
     {
-        let count = match &self.stage {
-            Stage::Live(live) => received(&live.decoder),
+        match &self.stage {
+            Stage::Live(live) => received(&live.reader),
             Stage::Ended(ended) => ended.received,
-        };
-        count as u32
+        }
     }
 
     /// The number under which the readiness of its link is reported; `None` where it has no link.

@@ -1,30 +1,32 @@
 //! What an exchange ends with.
-ghost use Rattle.std.specs.Prelude.{◌≡◌, ◌≢◌, ◌<◌, ◌↔◌, ◌+◌, ◌^◌, ℕ, true, length, take, slice_range, Some, IsSome, IfSome, IfOk, option_copied};
+ghost use Rattle.std.specs.Prelude.{◌≡◌, ◌≢◌, ◌<◌, ◌↔◌, ◌+◌, ◌^◌, ℕ, true, length, take, slice_range, Some, None, IsSome, IfSome, IfOk, option_copied};
 ghost use Rattle.std.specs.List.{slice_get};
 ghost use Rattle.mx_body.specs.declared.part.Part.{Part};
 ghost use Rattle.mx_body.specs.Parts.{AreOrdered, joined};
-ghost use Rattle.mx_body.specs.Decision.{HasStatus, TellsLocation, IsPlaceIn, bytes_at};
-ghost use Rattle.mx_exchange.specs.Exchanges.{HopValue};
+ghost use Rattle.mx_reader.specs.Readers.{IsKept};
+ghost use Rattle.mx_body.specs.Decision.{HasStatus, TellsLocation, IsPlaceIn};
 ghost use Rattle.mx_link.specs.Answers.{given};
 ghost use Rattle.mx_exchange.specs.Order.{InOrder};
-ghost use Rattle.mx_exchange.specs.Hops.{IsHop, IsWhole, HasContent, IsFront, is_hop_code};
+ghost use Rattle.mx_exchange.specs.Hops.{IsHop, IsWhole, HasBody, HasContent, IsFront, hop_of, is_hop_code};
 ghost use Rattle.mx_types.specs.declared.code.Code.TheVariants as code;
 
 use crate::laws;
 use mx_body::Part as BodyPart;
 use mx_link::Answer;
+use mx_reader::Reader;
 use mx_request::Request;
 use mx_types::{Code, History, OutOfMemory};
 use std::alloc::Global;
 use std::marker::Model;
 use std::snapshot::Snapshot;
 
-/// What an exchange ended with: its request, the bytes of the response, the code, the status, and where the data of the body and the value
-/// of the first Location line are in the bytes. For contracts alone it also has what its link answered since it was attached or probed, and
-/// whether that link was in use before.
+/// What an exchange ended with: its request, the bytes of the response that are kept, the code, the status, and where the data of the body and
+/// the value of the first Location line are in the bytes. For contracts alone it also has all bytes of the response, what was handed on of them,
+/// what its link answered since it was attached or probed, and whether that link was in use before.
 pub struct Hop {
     request: Request,
-    wire: Vec<u8>,
+    read: Snapshot<Reader>,
+    kept: Vec<u8>,
     code: Code,
     status: u16,
     parts: Vec<BodyPart>,
@@ -38,7 +40,8 @@ impl Drop for Hop {
     fn drop(self) {
         let Hop {
             request,
-            wire,
+            read,
+            kept,
             code: _,
             status: _,
             parts,
@@ -47,7 +50,8 @@ impl Drop for Hop {
             is_reused,
         } = self;
         drop(request);
-        drop(wire);
+        drop(read);
+        drop(kept);
         drop(parts);
         drop(answers);
         drop(is_reused);
@@ -57,43 +61,26 @@ impl Drop for Hop {
 impl Model for Hop {
     ghost use Rattle.std.specs.Prelude.{length};
     ghost use Rattle.mx_body.specs.Parts.{AreOrdered};
-    ghost use Rattle.mx_body.specs.Decision.{bytes_at, IsPlaceIn};
+    ghost use Rattle.mx_body.specs.Decision.{IsPlaceIn};
     ghost use Rattle.mx_exchange.specs.Exchanges.{HopValue};
-    ghost use Rattle.mx_exchange.specs.Hops.{IsHop};
+    ghost use Rattle.mx_exchange.specs.Hops.{IsHop, hop_of};
 
     ghost Value = { HopValue };
 
-    ghost view = { λ o. record {
-      request = o.request;
-      wire = o.wire.items;
-      code = o.code;
-      status = o.status;
-      parts = o.parts.items;
-      location = bytes_at o.wire.items o.location;
-      answers = o.answers.value;
-      is_reused = o.is_reused.value;
-    } };
+    ghost view = { λ o. hop_of o.request o.read.value o.kept.items o.code o.status o.parts.items o.location o.answers.value o.is_reused.value };
 
     ghost invariant = { λ o. record {
-      ordered : AreOrdered 0 (length o.wire.items) o.parts.items;
-      within : IsPlaceIn (length o.wire.items) o.location;
-      outcome : IsHop (record {
-        request = o.request;
-        wire = o.wire.items;
-        code = o.code;
-        status = o.status;
-        parts = o.parts.items;
-        location = bytes_at o.wire.items o.location;
-        answers = o.answers.value;
-        is_reused = o.is_reused.value;
-      });
+      ordered : AreOrdered 0 (length o.kept.items) o.parts.items;
+      within : IsPlaceIn (length o.kept.items) o.location;
+      outcome : IsHop (hop_of o.request o.read.value o.kept.items o.code o.status o.parts.items o.location o.answers.value o.is_reused.value);
     } };
 }
 
 impl Hop {
     pub(crate) fn new(
         request: Request,
-        wire: Vec<u8>,
+        read: Snapshot<Reader>,
+        kept: Vec<u8>,
         code: Code,
         status: u16,
         parts: Vec<BodyPart>,
@@ -101,32 +88,15 @@ impl Hop {
         answers: Snapshot<History<Answer>>,
         is_reused: Snapshot<bool>,
     ) -> Hop
-        requires ordered { AreOrdered 0 (length wire.items) parts.items }
-        requires within { IsPlaceIn (length wire.items) location }
-        requires outcome { IsHop (record {
-          request = request;
-          wire = wire.items;
-          code = code;
-          status = status;
-          parts = parts.items;
-          location = bytes_at wire.items location;
-          answers = answers.value;
-          is_reused = is_reused.value;
-        }) }
-        ensures { result ≡ record {
-          request = request;
-          wire = wire.items;
-          code = code;
-          status = status;
-          parts = parts.items;
-          location = bytes_at wire.items location;
-          answers = answers.value;
-          is_reused = is_reused.value;
-        } }
+        requires ordered { AreOrdered 0 (length kept.items) parts.items }
+        requires within { IsPlaceIn (length kept.items) location }
+        requires outcome { IsHop (hop_of request read.value kept.items code status parts.items location answers.value is_reused.value) }
+        ensures { result ≡ hop_of request read.value kept.items code status parts.items location answers.value is_reused.value }
     {
         Hop {
             request,
-            wire,
+            read,
+            kept,
             code,
             status,
             parts,
@@ -152,24 +122,27 @@ impl Hop {
         &self.request
     }
 
-    /// The bytes of the response, as far as it came: a prefix of what the link gave, and all of it unless the code is
-    /// `OutOfMemory`.
-    pub fn wire(&self) -> &[u8]
-        ensures wire { result.now ≡ self.now.wire }
+    /// The bytes of the response that are kept: of one that is held all that came, of one that is handed on its heads. What came is a prefix of
+    /// what the link gave, and all of it unless the code is `OutOfMemory`.
+    pub fn kept(&self) -> &[u8]
+        ensures kept { result.now ≡ self.now.kept }
+        ensures keeps { IsKept self.now.limit self.now.wire result.now }
         ensures front { IsFront self.now }
-        ensures all { self.now.code ≢ code.OutOfMemory → result.now ≡ given self.now.answers }
+        ensures all { self.now.code ≢ code.OutOfMemory → self.now.wire ≡ given self.now.answers }
     {
-        self.wire.as_slice()
+        self.kept.as_slice()
     }
 
-    /// The code. Where it is `Ok`, the wire begins with a whole response, or is one, and its data are at the parts.
+    /// The code. Where it is `Ok`, the wire begins with a whole response, or is one, and its data are at the parts, or were handed on.
     pub fn code(&self) -> Code
         ensures code { result ≡ self.now.code }
         ensures whole { result ≡ code.Ok → IsWhole self.now }
-        ensures content { result ≡ code.Ok → HasContent self.now }
+        ensures body { result ≡ code.Ok → HasBody self.now }
+        ensures content { result ≡ code.Ok → self.now.limit ≡ None → HasContent self.now }
         ensures listed { is_hop_code result ≡ true }
     {
         // proof: a hop that ends with `Ok` has the content, and which codes there are
+        laws::ok_has_body();
         laws::ok_has_content();
         laws::codes_are_listed();
         self.code
@@ -190,26 +163,27 @@ impl Hop {
         ensures wire { TellsLocation self.now.wire self.now.location }
     {
         let place = self.location?;
-        Some(&self.wire[place.start as usize..place.end as usize])
+        Some(&self.kept[place.start as usize..place.end as usize])
     }
 
     /// The request, by move.
     pub fn into_request(self) -> Request
         ensures { result ≡ self.request }
     {
-        let (request, wire) = self.into_parts();
-        drop(wire);
+        let (request, kept) = self.into_parts();
+        drop(kept);
         request
     }
 
-    /// The request and the bytes of the response, by move.
+    /// The request and the bytes of the response that are kept, by move.
     pub fn into_parts(self) -> (Request, Vec<u8>)
         ensures request { result.0 ≡ self.request }
-        ensures wire { result.1.items ≡ self.wire }
+        ensures kept { result.1.items ≡ self.kept }
     {
         let Hop {
             request,
-            wire,
+            read,
+            kept,
             code: _,
             status: _,
             parts,
@@ -217,10 +191,11 @@ impl Hop {
             answers,
             is_reused,
         } = self;
+        drop(read);
         drop(parts);
         drop(answers);
         drop(is_reused);
-        (request, wire)
+        (request, kept)
     }
 
     /// How many parts the body has; 0 where the code isn't `Ok`.
@@ -234,10 +209,10 @@ impl Hop {
     // The bytes of a part that is there.
     fn bytes_of(&self, i: usize) -> &[u8]
         requires { i < length self.now.parts }
-        ensures { (p : Part) × (slice_get self.now.parts i ≡ Some p) × (result.now ≡ slice_range self.now.wire p.start p.end) }
+        ensures { (p : Part) × (slice_get self.now.parts i ≡ Some p) × (result.now ≡ slice_range self.now.kept p.start p.end) }
     {
         let part = self.parts[i];
-        &self.wire[part.start as usize..part.end as usize]
+        &self.kept[part.start as usize..part.end as usize]
     }
 
     /// A part of the body, counted from 0; `None` past the last.
@@ -245,6 +220,8 @@ impl Hop {
         ensures some { i < length self.now.parts → IfSome result (λ bytes. (p : Part) × (slice_get self.now.parts i ≡ Some p) × (bytes.now ≡ slice_range self.now.wire p.start p.end)) }
         ensures count { IsSome result ↔ (i < length self.now.parts) }
     {
+        // proof: where there are parts memory has all bytes
+        self.know();
         if i >= self.part_count() {
             return None;
         }
@@ -254,8 +231,8 @@ impl Hop {
     // The length of a part that is there.
     fn part_len(&self, i: usize) -> u32
         requires { i < length self.now.parts }
-        ensures next { length (joined self.now.wire (take (i + 1) self.now.parts)) ≡ length (joined self.now.wire (take i self.now.parts)) + result }
-        ensures fits { length (joined self.now.wire (take (i + 1) self.now.parts)) < 2 ^ 32 }
+        ensures next { length (joined self.now.kept (take (i + 1) self.now.parts)) ≡ length (joined self.now.kept (take i self.now.parts)) + result }
+        ensures fits { length (joined self.now.kept (take (i + 1) self.now.parts)) < 2 ^ 32 }
     {
         let place = self.parts[i];
         place.end - place.start
@@ -265,6 +242,8 @@ impl Hop {
     pub fn body_len(&self) -> u32
         ensures { result ≡ length (joined self.now.wire self.now.parts) }
     {
+        // proof: where there are parts memory has all bytes
+        self.know();
         let mut len = 0;
         for i in 0..self.part_count() {
             len += self.part_len(i);
@@ -278,6 +257,8 @@ impl Hop {
     pub fn copy_body(&self, alloc: Global) -> Result<Vec<u8>, OutOfMemory>
         ensures { IfOk result (λ body. body.items ≡ joined self.now.wire self.now.parts) }
     {
+        // proof: where there are parts memory has all bytes
+        self.know();
         let mut body = Vec::new(alloc);
         for i in 0..self.part_count() {
             body.extend_from_slice(self.bytes_of(i))?;

@@ -1,8 +1,7 @@
 //! What holds of every link that serves a request, of every hop, and of every exchange's life. Each law is a function that does
 //! nothing: its contract is the law.
-ghost use Rattle.mx_exchange.specs.Laws.{TakenIsTheFront, OkHasContent, CodesAreListed, DropsOnce};
+ghost use Rattle.mx_exchange.specs.Laws.{TakenIsTheFront, OkHasBody, OkHasContent, HeldHasAll, CodesAreListed, DropsOnce};
 
-use mx_body::laws;
 use mx_link::Link;
 
 /// What a link has taken is a prefix of the request, and the whole of it once the link was read.
@@ -10,13 +9,20 @@ pub fn request_is_taken_from_the_front()
     ensures { TakenIsTheFront }
 {}
 
-/// With code 0 the first bytes of the wire are a response, and the bytes at the parts, joined, are its content.
+/// With code 0 the first bytes of the wire are a response, and the bytes at the parts, joined, and then what was handed on are its content.
+pub fn ok_has_body()
+    ensures { OkHasBody }
+{}
+
+/// With code 0 the first bytes of the wire of a response that is held are a response, and the bytes at the parts, joined, are its content.
 pub fn ok_has_content()
     ensures { OkHasContent }
-{
-    // proof: the parts of a response are its content
-    laws::parts_are_content();
-}
+{}
+
+/// Of a response that is held nothing is handed on, and memory has all its bytes.
+pub fn held_has_all()
+    ensures { HeldHasAll }
+{}
 
 /// A hop's code is `Ok`, a fault of the bytes of a response, one of a link or of memory, or that of a deadline.
 pub fn codes_are_listed()

@@ -3,6 +3,7 @@
 
 mod buffers;
 mod calls;
+mod delivery;
 mod exchanges;
 mod hops;
 pub mod laws;

@@ -24,7 +24,7 @@ pub fn poll_once<L: Link>(transfer: &mut Transfer<L>, cx: &mut Context<'_>) -> P
     ensures received { IfReady result (λ outcome. received_of transfer.new.chain ≡ bytes_in (hops_of outcome)) }
     ensures again { OnPending result (transfer.new.chain.code ≡ None) }
     ensures kept { OnPending result (transfer.new.chain.request ≡ transfer.old.chain.request) }
-    ensures undecided { OnPending result (IsUndecided transfer.new.chain.now.request.method transfer.new.chain.now.answers) }
+    ensures undecided { OnPending result (IsUndecided transfer.new.chain.now.limit transfer.new.chain.now.request.method transfer.new.chain.now.answers) }
     ensures counted { received_of transfer.old.chain ≤ received_of transfer.new.chain }
     ensures token { KeepsToken L.token_of transfer.old.chain.now.link transfer.new.chain.now.link }
 {

@@ -9,6 +9,8 @@ mod connecting;
 #[cfg(test)]
 mod faults;
 #[cfg(test)]
+mod flowing;
+#[cfg(test)]
 mod hops;
 #[cfg(test)]
 mod interrupted;

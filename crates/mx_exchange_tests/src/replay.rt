@@ -52,7 +52,7 @@ struct Seen {
 }
 
 /// Fails unless the part is as the row says.
-fn holds(is_so: bool, part: &'static str) -> Result<(), Stop> {
+pub(crate) fn holds(is_so: bool, part: &'static str) -> Result<(), Stop> {
     if is_so {
         return Ok(());
     }

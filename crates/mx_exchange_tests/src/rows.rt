@@ -1,7 +1,7 @@
 //! A row: what a transfer is made of, the calls on it, and what is seen of it then.
 
 use crate::replay::{Stop, are_so, verdict};
-use crate::{hops, redirects, table};
+use crate::{flowing, hops, redirects, table};
 use futures::test::MockTask;
 use mx_link::{ScriptRead, Write};
 use mx_types::{Code, Method};
@@ -154,7 +154,8 @@ pub(crate) fn end_of(ends: Ends<'_>) -> Option<End<'_>> {
 fn play_all(alloc: Global, task: &MockTask) -> Result<(), Stop> {
     are_so(alloc, task, &table::rows())?;
     are_so(alloc, task, &hops::rows())?;
-    are_so(alloc, task, &redirects::rows())
+    are_so(alloc, task, &redirects::rows())?;
+    flowing::are_so(alloc)
 }
 
 #[test]

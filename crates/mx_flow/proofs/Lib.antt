@@ -6,3 +6,4 @@ pub mod ResponseProofs
 pub mod StreamProofs
 pub mod StageProofs
 pub mod OneStreamProofs
+pub mod Sends

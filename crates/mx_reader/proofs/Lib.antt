@@ -6,3 +6,4 @@ pub mod OneProofs
 pub mod AllProofs
 pub mod HeldLemmas
 pub mod CodeLemmas
+pub mod Sends

@@ -303,7 +303,7 @@ impl<L: Link> Future for Transfer<L> {
         ensures token { KeepsToken L.token_of self.old.chain.now.link self.new.chain.now.link }
         ensures known { IsChain self.new.chain }
         ensures hop { IsExchange L.history L.asked L.token_of self.new.chain.now }
-        ensures undecided { OnPending result (IsUndecided self.new.chain.now.request.method self.new.chain.now.answers) }
+        ensures undecided { OnPending result (IsUndecided self.new.chain.now.limit self.new.chain.now.request.method self.new.chain.now.answers) }
     {
         self.has_asked = false;
         match self.chain.turn() {

@@ -1,27 +1,27 @@
 //! An exchange before its end, and after it.
 ghost use Rattle.std.specs.Prelude.{◌≡◌, [], None, IfSome, false, length};
 ghost use Rattle.mx_body.specs.Decision.{HasStatus};
-ghost use Rattle.mx_body.specs.Decoder.{parts_of};
 ghost use Rattle.mx_types.specs.declared.code.Code.TheVariants as code;
-ghost use Rattle.mx_exchange.specs.Endings as spec;
+ghost use Rattle.mx_exchange.specs.Exchanges.{capped};
 ghost use Rattle.mx_exchange.specs.Lines.{IsGoing, MayHandOut};
 ghost use Rattle.mx_exchange.specs.Hops.{MayEnd};
-ghost use Rattle.mx_exchange.specs.Stages.{link_of, answers_of, reused_of};
+ghost use Rattle.mx_exchange.specs.Stages.{limit_by, link_of, answers_of, reused_of};
 
+use crate::delivery::Delivery;
 use crate::hops::Hop;
 use crate::lines::Line;
-use mx_body::Decoder;
 use mx_link::{Answer, Link};
+use mx_reader::Reader;
 use mx_request::Request;
 use mx_types::{Code, History};
 use std::alloc::Global;
 use std::snapshot::Snapshot;
 
-/// A request, the decoder of its response, and the link that serves it, if one does.
+/// A request, the reader of its response, and the link that serves it, if one does.
 #[derive(Drop)]
 pub(super) struct Live<L: Link> {
     pub(super) request: Request,
-    pub(super) decoder: Decoder,
+    pub(super) reader: Reader,
     pub(super) line: Option<Line<L>>,
 }
 
@@ -29,7 +29,7 @@ pub(super) struct Live<L: Link> {
 #[derive(Drop)]
 pub(super) struct Ended<L: Link> {
     pub(super) code: Code,
-    pub(super) received: usize,
+    pub(super) received: u32,
     pub(super) line: Option<Line<L>>,
     pub(super) is_kept: bool,
 }
@@ -42,16 +42,17 @@ pub(super) enum Stage<L: Link> {
 }
 
 impl<L: Link> Live<L> {
-    pub fn new(alloc: Global, request: Request) -> Live<L>
+    pub fn new(alloc: Global, request: Request, delivery: Delivery) -> Live<L>
         ensures request { result.request ≡ request }
-        ensures begins { result.decoder.wire ≡ [] }
-        ensures going { IsGoing request.method [] result.decoder }
+        ensures limit { result.reader.limit ≡ limit_by delivery }
+        ensures begins { (result.reader.wire ≡ []) × (result.reader.judgement.content ≡ []) }
+        ensures going { IsGoing request.method [] result.reader }
         ensures line { result.line ≡ None }
     {
-        let decoder = Decoder::new(alloc, request.method());
+        let reader = delivery.reader(alloc, request.method());
         Live {
             request,
-            decoder,
+            reader,
             line: None,
         }
     }
@@ -108,44 +109,42 @@ impl<L: Link> Stage<L> {
     }
 }
 
-/// How many bytes of a response came.
-pub(super) fn received(decoder: &Decoder) -> usize
-    ensures { result ≡ length decoder.now.wire }
-{
-    decoder.wire().len()
-}
+/// The greatest count.
+const MOST_COUNTED: u64 = 4_294_967_295;
 
-// rule exchange-kept-link
-/// Whether a link that gave what the decoder has may serve again.
-pub(super) fn may_keep(decoder: &Decoder) -> bool
-    ensures { result ≡ spec.may_keep decoder.now.verdict decoder.now.wire }
+/// How many bytes of a response came, held at the greatest number of 32 bits.
+pub(super) fn received(reader: &Reader) -> u32
+    ensures { result ≡ capped (length reader.now.wire) }
 {
-    decoder.keep() && decoder.len() == decoder.wire().len()
+    reader.received().min(MOST_COUNTED) as u32
 }
 
 /// The hop of an exchange whose link gave these answers.
 pub(super) fn end(
     request: Request,
-    decoder: Decoder,
+    reader: Reader,
     code: Code,
     answers: Snapshot<History<Answer>>,
     is_reused: Snapshot<bool>,
 ) -> Hop
-    requires { MayEnd request is_reused.value answers.value decoder code }
+    requires { MayEnd request is_reused.value answers.value reader code }
     ensures request { result.request ≡ request }
-    ensures wire { result.wire ≡ decoder.wire }
+    ensures limit { result.limit ≡ reader.limit }
+    ensures wire { result.wire ≡ reader.wire }
     ensures code { result.code ≡ code }
     ensures status { HasStatus result.wire result.status }
-    ensures parts { result.parts ≡ parts_of decoder.verdict }
+    ensures parts { result.parts ≡ reader.judgement.parts }
+    ensures content { result.content ≡ reader.judgement.content }
     ensures answers { result.answers ≡ answers.value }
     ensures reused { result.is_reused ≡ is_reused.value }
 {
     // proof: what holds of a request
     request.know();
-    let status = decoder.status();
-    let location = decoder.location();
-    let (wire, parts) = decoder.into_parts();
+    let status = reader.status();
+    let location = reader.location();
+    let read = Snapshot::of(&reader);
+    let (kept, parts) = reader.into_parts();
     Hop::new(
-        request, wire, code, status, parts, location, answers, is_reused,
+        request, read, kept, code, status, parts, location, answers, is_reused,
     )
 }

@@ -1,10 +1,10 @@
 //! What a turn of an exchange does.
-ghost use Rattle.std.specs.Prelude.{◌≡◌, ◌≤◌, true, false, Some, None, IsTrue, ◌↔◌, length};
-ghost use Rattle.mx_exchange.specs.Exchanges.{IsDue, IsServed, IsExchange, KeepsToken, first_deadline, clocked, dropped};
+ghost use Rattle.std.specs.Prelude.{◌≡◌, ◌≤◌, true, false, [], Some, None, IsTrue, ◌↔◌, length};
+ghost use Rattle.mx_exchange.specs.Exchanges.{IsDue, IsServed, IsExchange, KeepsToken, HandsOver, capped, first_deadline, clocked, dropped};
 ghost use Rattle.mx_exchange.specs.Endings.{IsUndecided, is_stop_code};
 
 use super::Exchange;
-use super::stages::{Ended, Live, Stage, end, may_keep, received};
+use super::stages::{Ended, Live, Stage, end, received};
 use crate::buffers::ReadBuffer;
 use crate::calls::Halt;
 use crate::hops::Hop;
@@ -38,7 +38,7 @@ pub(crate) enum Before {
 }
 
 impl<L: Link> Exchange<L> {
-    ghost use Rattle.mx_exchange.specs.Turns.{how_of, MayTouch, ProbeSo, StopsWith, Exchanged, Turns, IfEnded, IfGoing};
+    ghost use Rattle.mx_exchange.specs.Turns.{how_of, content_by, MayTouch, ProbeSo, StopsWith, Exchanged, Turns, IfEnded, IfGoing};
     ghost use Rattle.mx_exchange.specs.Hops.{IsHop};
     ghost use Rattle.mx_types.specs.declared.code.Code.TheVariants as code;
     ghost use Rattle.mx_exchange.specs.Stages.{alive, over, link_of, ComesBefore, IsAlive, IsEnded};
@@ -84,7 +84,7 @@ impl<L: Link> Exchange<L> {
 
     // Goes on with this stage.
     fn go_on(&mut self, live: Live<L>)
-        requires { IsAlive L.history L.asked L.token_of self.old.request self.old.needs_fresh self.old.failure live }
+        requires { IsAlive L.history L.asked L.token_of self.old.request self.old.limit self.old.needs_fresh self.old.failure live }
         ensures { self.new ≡ alive self.old live }
     {
         drop(mem::replace(&mut self.stage, Stage::Live(live)));
@@ -96,13 +96,13 @@ impl<L: Link> Exchange<L> {
         ensures { self.new ≡ record (dropped self.old) { code = None; is_kept = false } }
     {
         self.needs_fresh = true;
-        let live = Live::new(self.alloc, request);
+        let live = Live::new(self.alloc, request, self.delivery);
         drop(mem::replace(&mut self.stage, Stage::Live(live)));
     }
 
     // Has ended, and leaves this.
     fn settle(&mut self, ended: Ended<L>)
-        requires { IsEnded L.history L.asked L.token_of self.old.request self.old.needs_fresh self.old.failure ended }
+        requires { IsEnded L.history L.asked L.token_of self.old.request self.old.limit self.old.needs_fresh self.old.failure ended }
         ensures { self.new ≡ over self.old ended }
     {
         drop(mem::replace(&mut self.stage, Stage::Ended(ended)));
@@ -110,17 +110,17 @@ impl<L: Link> Exchange<L> {
 
     // Ends without a further call on the link.
     fn stop(&mut self, live: Live<L>, code: Code) -> Hop
-        requires live { IsAlive L.history L.asked L.token_of self.old.request self.old.needs_fresh self.old.failure live }
+        requires live { IsAlive L.history L.asked L.token_of self.old.request self.old.limit self.old.needs_fresh self.old.failure live }
         requires listed { is_stop_code code ≡ true }
         ensures code { result.code ≡ code }
         ensures stopped { StopsWith (alive self.old live) self.new result }
     {
         let answers = live.answers();
         let is_reused = live.reused();
-        let count = received(&live.decoder);
+        let count = received(&live.reader);
         let Live {
             request,
-            decoder,
+            reader,
             line,
         } = live;
         self.settle(Ended {
@@ -129,16 +129,17 @@ impl<L: Link> Exchange<L> {
             line,
             is_kept: false,
         });
-        end(request, decoder, code, answers, is_reused)
+        end(request, reader, code, answers, is_reused)
     }
 
     // rule exchange-probe
     // Asks a reused link for a byte first, and drops the link unless it answers that it would wait. False where it was dropped.
     fn probe(&mut self, live: &mut Live<L>) -> bool
         requires away { self.old.link ≡ None }
-        requires live { IsAlive L.history L.asked L.token_of self.old.request self.old.needs_fresh self.old.failure live.old }
+        requires live { IsAlive L.history L.asked L.token_of self.old.request self.old.limit self.old.needs_fresh self.old.failure live.old }
         ensures probe { ProbeSo result L.history (alive self.old live.old) (alive self.new live.new) }
-        ensures live { IsAlive L.history L.asked L.token_of self.new.request self.new.needs_fresh self.new.failure live.new }
+        ensures unread { live.new.reader ≡ live.old.reader }
+        ensures live { IsAlive L.history L.asked L.token_of self.new.request self.new.limit self.new.needs_fresh self.new.failure live.new }
         ensures token { KeepsToken L.token_of (link_of live.old.line) (link_of live.new.line) }
     {
         let Some(line) = &mut live.line else {
@@ -152,31 +153,33 @@ impl<L: Link> Exchange<L> {
         false
     }
 
+    // rule exchange-kept-link
     // Asks the link, if there is one, with this buffer for its reads.
-    fn exchange(&mut self, live: Live<L>, buffer: &mut ReadBuffer) -> Turned
-        requires live { IsAlive L.history L.asked L.token_of self.old.request self.old.needs_fresh self.old.failure live }
+    fn exchange(&mut self, live: Live<L>, buffer: &mut ReadBuffer, out: &mut Vec<u8>) -> Turned
+        requires live { IsAlive L.history L.asked L.token_of self.old.request self.old.limit self.old.needs_fresh self.old.failure live }
         requires probed { (alive self.old live).needs_probe ≡ false }
         ensures turn { Exchanged L.history (alive self.old live) self.new (how_of result) }
+        ensures handed { HandsOver (alive self.old live).content (content_by self.new (how_of result)) out.old.items out.new.items }
         ensures token { KeepsToken L.token_of (link_of live.line) self.new.link }
     {
         let Live {
             request,
-            mut decoder,
+            mut reader,
             line,
         } = live;
         let Some(mut line) = line else {
             self.go_on(Live {
                 request,
-                decoder,
+                reader,
                 line: None,
             });
             return Turned::Waits;
         };
-        match line.serve(&request, &mut decoder, buffer) {
+        match line.serve(&request, &mut reader, buffer, out) {
             Halt::Blocked => {
                 self.go_on(Live {
                     request,
-                    decoder,
+                    reader,
                     line: Some(line),
                 });
                 Turned::Waits
@@ -184,7 +187,7 @@ impl<L: Link> Exchange<L> {
             Halt::Unfinished => {
                 self.go_on(Live {
                     request,
-                    decoder,
+                    reader,
                     line: Some(line),
                 });
                 Turned::Asks
@@ -196,29 +199,30 @@ impl<L: Link> Exchange<L> {
             Halt::Over(code) => {
                 let answers = line.answers();
                 let is_reused = Snapshot::of(&line.is_reused());
-                let count = received(&decoder);
-                let is_kept = may_keep(&decoder);
+                let count = received(&reader);
+                let is_kept = reader.may_keep();
                 self.settle(Ended {
                     code,
                     received: count,
                     line: Some(line),
                     is_kept,
                 });
-                Turned::Ended(end(request, decoder, code, answers, is_reused))
+                Turned::Ended(end(request, reader, code, answers, is_reused))
             }
         }
     }
 
     // The same, with the buffer that it has.
-    fn exchange_buffered(&mut self, live: Live<L>) -> Turned
-        requires live { IsAlive L.history L.asked L.token_of self.old.request self.old.needs_fresh self.old.failure live }
+    fn exchange_buffered(&mut self, live: Live<L>, out: &mut Vec<u8>) -> Turned
+        requires live { IsAlive L.history L.asked L.token_of self.old.request self.old.limit self.old.needs_fresh self.old.failure live }
         requires probed { (alive self.old live).needs_probe ≡ false }
         ensures turn { Exchanged L.history (alive self.old live) self.new (how_of result) }
+        ensures handed { HandsOver (alive self.old live).content (content_by self.new (how_of result)) out.old.items out.new.items }
         ensures token { KeepsToken L.token_of (link_of live.line) self.new.link }
     {
         let mut buffer = ReadBuffer::new(self.alloc);
         self.swap_buffer(&mut buffer);
-        let turned = self.exchange(live, &mut buffer);
+        let turned = self.exchange(live, &mut buffer, out);
         self.swap_buffer(&mut buffer);
         turned
     }
@@ -227,7 +231,7 @@ impl<L: Link> Exchange<L> {
     fn take(&mut self) -> Live<L>
         requires { self.old.code ≡ None }
         ensures is { alive self.new result ≡ self.old }
-        ensures live { IsAlive L.history L.asked L.token_of self.new.request self.new.needs_fresh self.new.failure result }
+        ensures live { IsAlive L.history L.asked L.token_of self.new.request self.new.limit self.new.needs_fresh self.new.failure result }
         ensures away { self.new.link ≡ None }
     {
         match mem::replace(&mut self.stage, Stage::gone()) {
@@ -247,10 +251,11 @@ impl<L: Link> Exchange<L> {
     }
 
     // Probes the link, and asks it. Where there is none, it is left as it is.
-    fn touch(&mut self) -> Turned
+    fn touch(&mut self, out: &mut Vec<u8>) -> Turned
         requires going { self.old.code ≡ None }
         requires may { MayTouch self.old }
         ensures turn { Turns L.history self.old self.new (how_of result) }
+        ensures handed { HandsOver self.old.content (content_by self.new (how_of result)) out.old.items out.new.items }
         ensures token { KeepsToken L.token_of self.old.link self.new.link }
     {
         if self.lacks_link() {
@@ -261,7 +266,7 @@ impl<L: Link> Exchange<L> {
             self.go_on(live);
             return Turned::Waits;
         }
-        self.exchange_buffered(live)
+        self.exchange_buffered(live, out)
     }
 
     // rule exchange-order
@@ -284,9 +289,10 @@ impl<L: Link> Exchange<L> {
 
     // rule exchange-order
     // Takes one turn.
-    fn advance(&mut self) -> Turned
+    fn advance(&mut self, out: &mut Vec<u8>) -> Turned
         requires { self.old.code ≡ None }
         ensures turn { Turns L.history (clocked self.old) self.new (how_of result) }
+        ensures handed { HandsOver self.old.content (content_by self.new (how_of result)) out.old.items out.new.items }
         ensures token { KeepsToken L.token_of self.old.link self.new.link }
     {
         self.start_clock();
@@ -296,31 +302,35 @@ impl<L: Link> Exchange<L> {
                 Turned::Ended(self.stop(live, code))
             }
             Before::Pauses => Turned::Asks,
-            Before::Nothing => self.touch(),
+            Before::Nothing => self.touch(out),
         }
     }
 
-    /// Takes one turn: at most one probe, 64 reads and 64 writes.
-    pub fn turn(&mut self) -> Turned
+    /// Takes one turn: at most one probe, 64 reads and 64 writes. Content that is handed on is added to `out`; of a
+    /// response that is held none is.
+    pub fn turn(&mut self, out: &mut Vec<u8>) -> Turned
         requires { self.old.code ≡ None }
         ensures turn { Turns L.history (clocked self.old) self.new (how_of result) }
+        ensures handed { HandsOver self.old.content (content_by self.new (how_of result)) out.old.items out.new.items }
         ensures value { IfEnded result (λ hop. hop.request ≡ self.old.request) }
         ensures again { IfGoing result (self.new.code ≡ None) }
         ensures same { IfGoing result (self.new.request ≡ self.old.request) }
+        ensures limit { (self.new.limit ≡ self.old.limit) × IfEnded result (λ hop. hop.limit ≡ self.old.limit) }
         // 28 comes where the deadline is due, and only there
         ensures late { IfEnded result (λ hop. (hop.code ≡ code.OperationTimedout) ↔ IsDue (clocked self.old).deadline self.old.moment) }
-        ensures ended { IfEnded result (λ hop. (self.new.code ≡ Some hop.code) × (self.new.received ≡ length hop.wire)) }
+        ensures ended { IfEnded result (λ hop. (self.new.code ≡ Some hop.code) × (self.new.received ≡ capped (length hop.wire))) }
         // the count of bytes never falls
         ensures counted { self.old.received ≤ self.new.received }
         ensures outcome { IfEnded result IsHop }
         ensures token { KeepsToken L.token_of self.old.link self.new.link }
         ensures known { IsExchange L.history L.asked L.token_of self.new }
         ensures served { IsServed L.history self.new }
-        ensures undecided { IfGoing result (IsUndecided self.new.request.method self.new.answers) }
+        ensures undecided { IfGoing result (IsUndecided self.new.limit self.new.request.method self.new.answers) }
+        ensures held { self.old.limit ≡ None → out.new.items ≡ out.old.items }
     {
         // proof: what holds of the exchange before the turn
         self.know();
-        let turned = self.advance();
+        let turned = self.advance(out);
         // proof: what holds of the exchange after the turn
         self.know();
         match turned {

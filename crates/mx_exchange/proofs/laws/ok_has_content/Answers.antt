@@ -1,5 +1,7 @@
-use Rattle.mx_exchange.proofs.HopLemmas.{content_of}
+use Rattle.mx_reader.proofs.AllProofs.{whole_has_all}
+use Rattle.mx_reader.proofs.CodeLemmas.{codes_are_listed}
+use Rattle.mx_exchange.proofs.HopLemmas.{body_of, content_of}
 use Rattle.mx_exchange.proofs.laws.ok_has_content.Goals as goal
 
 pub returns : goal.returns
-returns c = content_of c.parts_are_content.ensures
+returns c = λ o is ok none. content_of o is (body_of whole_has_all codes_are_listed o is ok) none

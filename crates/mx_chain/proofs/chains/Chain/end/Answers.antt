@@ -15,7 +15,7 @@ new-requires g c =
     let few = (subst (λ (x : ChainState _). IsChain x) same c.self.invariant.chain).few in
     let hops = c.take-hops.ensures.taken ∙ ap (λ (x : ChainState _). followed x) same in
     subst (λ (x : FollowedHops). IsOutcome (outcome_of x.heads_alone x.all c.args.hop c.args.code)) (sym hops)
-    (made _ _ _ _ _ c.requires.leads few c.know.ensures c.requires.cause)
+    (made _ _ _ _ _ c.requires.leads few c.know.ensures c.requires.held c.requires.cause)
 
 pub returns : goal.returns
 returns g c =
@@ -23,7 +23,7 @@ returns g c =
     let few = (subst (λ (x : ChainState _). IsChain x) same c.self.invariant.chain).few in
     let hops = c.take-hops.ensures.taken ∙ ap (λ (x : ChainState _). followed x) same in
     let none = c.take-hops.ensures.none in
-    ends_on _ _ _ _ _ c.requires.unkept c.requires.leads few c.know.ensures c.requires.cause
+    ends_on _ _ _ _ _ c.requires.unkept c.requires.leads few c.know.ensures c.requires.held c.requires.cause
     (c.new.ensures ∙ ap (λ (x : FollowedHops). outcome_of x.heads_alone x.all c.args.hop c.args.code) hops)
     (λ i. record {
       request = ap (λ (x : ChainState _). x.request) same i;

@@ -75,3 +75,6 @@ returns-in-Ok g c =
       link = c.self.inside.idle;
       home = c.self.inside.home;
     })))
+
+pub end-requires-clause-held : goal.end-requires-clause-held
+end-requires-clause-held g c = rw c.in-Err.ensures.value_returned c.requires.held

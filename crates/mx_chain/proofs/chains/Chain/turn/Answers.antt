@@ -1,4 +1,4 @@
-use Rattle.std.proofs.Common.{refl}
+use Rattle.std.proofs.Common.{refl, ◌∙◌}
 use Rattle.mx_chain.specs.Steps.{waited, asked, ended}
 use Rattle.mx_chain.proofs.StepLemmas.{goes_again, goes_same, goes_ended, goes_late, goes_counted, goes_received, goes_home, goes_token, goes_undecided}
 use Rattle.mx_chain.proofs.chains.Chain.turn.Goals as goal
@@ -50,3 +50,6 @@ returns-in-Ended-clause-known g c = c.know.ensures.chain
 
 pub returns-in-Ended-clause-hop : goal.returns-in-Ended-clause-hop
 returns-in-Ended-clause-hop g c = c.know.ensures.hop
+
+pub go_on-stepped-requires-clause-held : goal.go_on-stepped-requires-clause-held
+go_on-stepped-requires-clause-held g c = c.in-Ended.ensures.limit.1 ∙ c.self.invariant.chain.held

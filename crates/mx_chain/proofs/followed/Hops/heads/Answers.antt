@@ -1,4 +1,8 @@
-use Rattle.std.proofs.Common.{arith}
+use Rattle.std.proofs.Common.{arith, length, refl, sym, ap, subst, ◌∙◌}
+use Rattle.std.proofs.lemmas.Option.{slice_get_read}
+use Rattle.mx_exchange.specs.Exchanges.{HopValue}
+use Rattle.mx_chain.specs.Followed.{AreHeld}
+use Rattle.mx_chain.proofs.HopLemmas.{held_read}
 use Rattle.std.proofs.lemmas.Grind.{common_steps}
 use Rattle.mx_chain.proofs.followed.Hops.heads.Goals as goal
 
@@ -19,3 +23,21 @@ returns-in_ok-get-in-Whole-clause-count c = grind (arith, common_steps)
 
 pub returns-in_ok-get-in-Heads-clause-count : goal.returns-in_ok-get-in-Heads-clause-count
 returns-in_ok-get-in-Heads-clause-count c = grind (arith, common_steps)
+
+pub heads_of-requires : goal.heads_of-requires
+heads_of-requires c =
+    let at = c.in_ok-get-in-Whole.ensures.lookup in
+    let held = subst AreHeld (sym c.deref.ensures.value) (rw c.in-Whole.is at c.self.invariant) in
+    ap (λ (o : HopValue). o.limit) at.1 ∙ held_read _ _ _ held at.3.0
+
+pub returns-in_ok-get-in-Whole-clause-heads : goal.returns-in_ok-get-in-Whole-clause-heads
+returns-in_ok-get-in-Whole-clause-heads c =
+    let at = c.in_ok-get-in-Whole.ensures.lookup in
+    let found = slice_get_read c.deref.result.now (length c.deref.result.now) c.args.i c.in_ok-get-in-Whole.field-0.now refl at.3.0 at.1 in
+    rw (← c.self.view_is, c.in-Whole.is, ← c.deref.ensures.value, found) c.heads_of.ensures
+
+pub returns-in_ok-get-in-Heads-clause-heads : goal.returns-in_ok-get-in-Heads-clause-heads
+returns-in_ok-get-in-Heads-clause-heads c =
+    let at = c.in_ok-get-in-Heads.ensures.lookup in
+    let found = slice_get_read c.deref-in-Heads.result.now (length c.deref-in-Heads.result.now) c.args.i c.in_ok-get-in-Heads.field-0.now refl at.3.0 at.1 in
+    rw (← c.self.view_is, c.in-Heads.is, ← c.deref-in-Heads.ensures.value, found) c.heads.ensures

@@ -1,6 +1,6 @@
-use Rattle.std.proofs.Common.{refl, ap}
+use Rattle.std.proofs.Common.{refl, ap, ◌∙◌}
 use Rattle.mx_exchange.specs.Exchanges.{ExchangeState}
-use Rattle.mx_exchange.proofs.Advanced.{Advance-on, Advance-paused, Advance-taken, clock_kept, keeps_same, stop_kept}
+use Rattle.mx_exchange.proofs.Advanced.{Advance-on, Advance-paused, Advance-taken, clock_kept, keeps_same, none_over, over_from, stop_kept}
 use Rattle.mx_exchange.proofs.exchanges.Exchange.advance.Goals as goal
 
 pub stop-requires-clause-listed : goal.stop-requires-clause-listed
@@ -26,3 +26,14 @@ returns-in-Nothing-clause-turn g c = Advance-on _ c.args.self.now _ _ c.start_cl
 
 pub returns-in-Nothing-clause-token : goal.returns-in-Nothing-clause-token
 returns-in-Nothing-clause-token g c = clock_kept g.L.Link.history g.L.Link.token_of c.args.self.now _ _ c.start_clock.ensures c.touch.ensures.token
+
+pub returns-in-Stops-clause-handed : goal.returns-in-Stops-clause-handed
+returns-in-Stops-clause-handed g c =
+    none_over _ _ _
+    (c.stop.ensures.stopped.content ∙ ap (λ (t : ExchangeState _). t.content) c.take-live.ensures.is ∙ ap (λ (t : ExchangeState _). t.content) c.start_clock.ensures)
+
+pub returns-in-Pauses-clause-handed : goal.returns-in-Pauses-clause-handed
+returns-in-Pauses-clause-handed g c = none_over _ _ _ (ap (λ (t : ExchangeState _). t.content) c.start_clock.ensures)
+
+pub returns-in-Nothing-clause-handed : goal.returns-in-Nothing-clause-handed
+returns-in-Nothing-clause-handed g c = over_from _ _ _ _ _ (ap (λ (t : ExchangeState _). t.content) c.start_clock.ensures) c.touch.ensures.handed

@@ -1,7 +1,7 @@
 use Rattle.std.proofs.Common.{◌≡◌, Some, refl, sym, ap, ◌∙◌}
 use Rattle.mx_exchange.specs.Lines.{LineState}
 use Rattle.mx_exchange.specs.Turns.{unserved}
-use Rattle.mx_exchange.proofs.Advanced.{Exchange-blocked, Exchange-unfinished, Exchange-lost, Exchange-ended}
+use Rattle.mx_exchange.proofs.Advanced.{Exchange-blocked, Exchange-unfinished, Exchange-lost, Exchange-ended, none_over, over_to}
 use Rattle.mx_exchange.proofs.HopLemmas.{received_bounded, kept_ends}
 use Rattle.mx_exchange.proofs.exchanges.Exchange.exchange.Goals as goal
 
@@ -40,7 +40,22 @@ returns-in-Over-clause-turn g c =
     let about = c.requires.live.about in
     let t = c.in-Over.ensures.turn in
     rw (c.settle.ensures, had, ap (λ (l : LineState _). l.attached) t.grows, ap (λ (l : LineState _). l.is_reused) t.grows, ap (λ (l : LineState _). l.needs_probe) t.grows, c.received-count.ensures)
-    (Exchange-ended _ _ _ _ _ _ _ refl refl refl serves.about serves.line.told c.in-Over.ensures.line.told t c.in-Over.code _ refl (c.end.ensures.request ∙ about ∙ sym serves.about) c.end.ensures.wire c.end.ensures.code c.end.ensures.status c.end.ensures.parts (c.end.ensures.answers ∙ c.answers-answers.ensures) (c.end.ensures.reused ∙ c.of-is_reused.ensures ∙ c.is_reused.ensures) c.may_keep-is_kept.ensures refl)
+    (Exchange-ended _ _ _ _ _ _ _ refl refl refl serves.about serves.line.told c.in-Over.ensures.line.told t c.in-Over.code _ refl (c.in-Over.ensures.handed.limit ∙ c.requires.live.limit_is) (c.end.ensures.request ∙ about ∙ sym serves.about) c.end.ensures.limit c.end.ensures.wire c.end.ensures.code c.end.ensures.status c.end.ensures.parts c.end.ensures.content (c.end.ensures.answers ∙ c.answers-answers.ensures) (c.end.ensures.reused ∙ c.of-is_reused.ensures ∙ c.is_reused.ensures) c.may_keep-is_kept.ensures refl)
+
+pub returns-in_default-clause-handed : goal.returns-in_default-clause-handed
+returns-in_default-clause-handed g c = rw c.go_on.ensures (none_over _ _ _ refl)
+
+pub returns-in-Blocked-clause-handed : goal.returns-in-Blocked-clause-handed
+returns-in-Blocked-clause-handed g c = rw c.go_on-in-Blocked.ensures c.in-Blocked.ensures.handed.hands
+
+pub returns-in-Unfinished-clause-handed : goal.returns-in-Unfinished-clause-handed
+returns-in-Unfinished-clause-handed g c = rw c.go_on-in-Unfinished.ensures c.in-Unfinished.ensures.handed.hands
+
+pub returns-in-Lost-clause-handed : goal.returns-in-Lost-clause-handed
+returns-in-Lost-clause-handed g c = rw c.begin_again.ensures (over_to _ _ _ _ _ (sym c.in-Lost.ensures.turn.so.1) c.in-Lost.ensures.handed.hands)
+
+pub returns-in-Over-clause-handed : goal.returns-in-Over-clause-handed
+returns-in-Over-clause-handed g c = over_to _ _ _ _ _ c.end.ensures.content c.in-Over.ensures.handed.hands
 
 pub settle-requires : goal.settle-requires
 settle-requires g c =
@@ -53,6 +68,6 @@ settle-requires g c =
     let order = (c.in-Over.ensures.line.serving fresh).order in
     record {
       serves = record { about = request ∙ serves.about; current = fresh; line = c.in-Over.ensures.line; unreused = λ e. reused ∙ serves.unreused e; wanted = serves.wanted };
-      kept = λ k. (c.serve.new.decoder.wire, c.serve.new.decoder.verdict, rw request (kept_ends _ _ _ _ _ t.so.cause (sym c.may_keep-is_kept.ensures ∙ k)));
-      bounded = rw c.received-count.ensures (received_bounded _ _ _ _ _ _ _ order t.so.cause);
+      kept = λ k. (c.serve.new.reader.limit, c.serve.new.reader.wire, c.serve.new.reader.judgement, rw request (kept_ends _ _ _ _ _ _ t.so.cause (sym c.may_keep-is_kept.ensures ∙ k)));
+      bounded = λ none. rw c.received-count.ensures (received_bounded _ _ _ _ _ _ _ _ order (c.in-Over.ensures.handed.limit ∙ c.requires.live.limit_is ∙ none) t.so.cause);
     }

@@ -3,4 +3,4 @@ use Rattle.mx_body.specs.Parts.{joined}
 use Rattle.mx_exchange.proofs.hops.Hop.body_len.Given as goal
 
 abbrev pub invariant-loop-i : goal.invariant-loop-i
-invariant-loop-i l = l.len ≡ length (joined l.self.wire (take l.i l.self.parts))
+invariant-loop-i l = l.len ≡ length (joined l.self.kept (take l.i l.self.parts))

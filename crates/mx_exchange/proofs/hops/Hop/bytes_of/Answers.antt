@@ -7,17 +7,17 @@ use Rattle.mx_exchange.proofs.hops.Hop.bytes_of.Goals as goal
 pub slice_bounds-result-count : goal.slice_bounds-result-count
 slice_bounds-result-count c =
     let less = rw (← c.self.view_is) at c.requires in
-    (ordered_part c.self.inside.wire.items c.self.inside.parts.items c.args.i c.index-part.result.now c.self.invariant.ordered less c.index-part.ensures).0
+    (ordered_part c.self.inside.kept.items c.self.inside.parts.items c.args.i c.index-part.result.now c.self.invariant.ordered less c.index-part.ensures).0
 
 pub slice_bounds-result-start : goal.slice_bounds-result-start
 slice_bounds-result-start c =
     let less = rw (← c.self.view_is) at c.requires in
-    (ordered_part c.self.inside.wire.items c.self.inside.parts.items c.args.i c.index-part.result.now c.self.invariant.ordered less c.index-part.ensures).0
+    (ordered_part c.self.inside.kept.items c.self.inside.parts.items c.args.i c.index-part.result.now c.self.invariant.ordered less c.index-part.ensures).0
 
 pub slice_bounds-result-end : goal.slice_bounds-result-end
 slice_bounds-result-end c =
     let less = rw (← c.self.view_is) at c.requires in
-    rw c.deref.ensures.value (ordered_part c.self.inside.wire.items c.self.inside.parts.items c.args.i c.index-part.result.now c.self.invariant.ordered less c.index-part.ensures).1
+    rw c.deref.ensures.value (ordered_part c.self.inside.kept.items c.self.inside.parts.items c.args.i c.index-part.result.now c.self.invariant.ordered less c.index-part.ensures).1
 
 pub returns : goal.returns
 returns c =

@@ -1,5 +1,5 @@
 use Rattle.std.proofs.Common.{◌∙◌, arith, inl, inr, rules}
-use Rattle.mx_exchange.proofs.Serves.{same_request, Serves-none, Serves-going, Serves-open, Serves-connected, Serves-wrote, Serves-heard, Serves-full, Serve-blocked, Serve-lost, Serve-over}
+use Rattle.mx_exchange.proofs.Serves.{reads_none, reads_then, same_request, Serves-none, Serves-going, Serves-open, Serves-connected, Serves-wrote, Serves-heard, Serves-full, Serve-blocked, Serve-lost, Serve-over}
 use Rattle.mx_exchange.proofs.lines.Line.serve_into.Goals.{in-Connected, in-Wrote+else-writes-eq-MOST_WRITES, in-Heard+else-reads-eq-MOST_READS}
 use Rattle.mx_exchange.proofs.lines.Line.serve_into.Goals as goal
 
@@ -12,18 +12,21 @@ loop-turn-preserved g c =
         reads = rw w.reads-is i.reads;
         writes = rw w.writes-is i.writes;
         serves = rw (w.reads-is, w.writes-is) (Serves-connected i.serves _ (rw w.in-Connected.is at c.ask_next.ensures.turn));
+        handed = reads_then _ _ _ _ _ _ i.handed c.ask_next.ensures.handed;
       }
       | in-Wrote+else-writes-eq-MOST_WRITES w ↦ record {
         room = c.ask_next.ensures.room ∙ i.room;
         reads = rw w.reads-is i.reads;
         writes = rw w.writes-is (omega (arith, i.writes, w.if-writes-eq-MOST_WRITES.false));
         serves = rw (w.reads-is, w.writes-is) (Serves-wrote i.serves _ (rw w.in-Wrote.is at c.ask_next.ensures.turn));
+        handed = reads_then _ _ _ _ _ _ i.handed c.ask_next.ensures.handed;
       }
       | in-Heard+else-reads-eq-MOST_READS w ↦ record {
         room = c.ask_next.ensures.room ∙ i.room;
         reads = rw w.reads-is (omega (arith, i.reads, w.if-reads-eq-MOST_READS.false));
         writes = rw w.writes-is i.writes;
         serves = rw (w.reads-is, w.writes-is) (Serves-heard i.serves _ (rw w.in-Heard.is at c.ask_next.ensures.turn));
+        handed = reads_then _ _ _ _ _ _ i.handed c.ask_next.ensures.handed;
       }
     ]
 
@@ -42,6 +45,7 @@ loop-turn-init g c = record {
   reads = omega arith;
   writes = omega arith;
   serves = Serves-none _ _ c.requires.going;
+  handed = reads_none _ _;
 }
 
 pub returns-then-writes-eq-MOST_WRITES-clause-turn : goal.returns-then-writes-eq-MOST_WRITES-clause-turn
@@ -63,3 +67,18 @@ returns-in-Over-clause-turn g c = Serve-over c.loop-turn.invariant.serves c.loop
 
 pub ask_next-requires-clause-room : goal.ask_next-requires-clause-room
 ask_next-requires-clause-room g c = search rules
+
+pub returns-then-writes-eq-MOST_WRITES-clause-handed : goal.returns-then-writes-eq-MOST_WRITES-clause-handed
+returns-then-writes-eq-MOST_WRITES-clause-handed g c = reads_then _ _ _ _ _ _ c.loop-turn.invariant.handed c.in-Wrote.ensures.handed
+
+pub returns-then-reads-eq-MOST_READS-clause-handed : goal.returns-then-reads-eq-MOST_READS-clause-handed
+returns-then-reads-eq-MOST_READS-clause-handed g c = reads_then _ _ _ _ _ _ c.loop-turn.invariant.handed c.in-Heard.ensures.handed
+
+pub returns-in-Blocked-clause-handed : goal.returns-in-Blocked-clause-handed
+returns-in-Blocked-clause-handed g c = reads_then _ _ _ _ _ _ c.loop-turn.invariant.handed c.in-Blocked.ensures.handed
+
+pub returns-in-Lost-clause-handed : goal.returns-in-Lost-clause-handed
+returns-in-Lost-clause-handed g c = reads_then _ _ _ _ _ _ c.loop-turn.invariant.handed c.in-Lost.ensures.handed
+
+pub returns-in-Over-clause-handed : goal.returns-in-Over-clause-handed
+returns-in-Over-clause-handed g c = reads_then _ _ _ _ _ _ c.loop-turn.invariant.handed c.in-Over.ensures.handed

@@ -1,5 +1,6 @@
 use Rattle.std.proofs.Common.{◌≡◌, ◌<◌, length}
 use Rattle.mx_exchange.specs.Order.{most_read}
+use Rattle.mx_exchange.specs.Lines.{ReadsOn}
 use Rattle.mx_exchange.proofs.Serves.{Serves}
 use Rattle.mx_exchange.proofs.lines.Line.serve_into.Given as goal
 
@@ -8,5 +9,6 @@ invariant-loop-turn g l = record {
   room : length l.buffer ≡ most_read;
   reads : l.reads < 64;
   writes : l.writes < 64;
-  serves : Serves l.initial.self l.self l.turn l.reads l.writes l.decoder;
+  serves : Serves l.initial.self l.self l.turn l.reads l.writes l.reader;
+  handed : ReadsOn l.initial.reader l.reader l.initial.out.items l.out.items;
 }

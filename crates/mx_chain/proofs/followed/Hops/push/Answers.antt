@@ -1,0 +1,11 @@
+use Rattle.std.proofs.Common.{sym, subst}
+use Rattle.mx_chain.specs.Followed.{AreHeld}
+use Rattle.mx_chain.proofs.HopLemmas.{held_pushed}
+use Rattle.mx_chain.proofs.followed.Hops.push.Goals.{in-Whole, in-Heads}
+use Rattle.mx_chain.proofs.followed.Hops.push.Goals as goal
+
+pub invariant_of-self : goal.invariant_of-self
+invariant_of-self c = elim c.match-self.branch [
+  | in-Whole w ↦ rw w.self-inside-is (subst AreHeld (sym w.push.ensures.items) (held_pushed _ _ _ (rw w.in-Whole.is at c.self.invariant) c.requires))
+  | in-Heads w ↦ rw w.self-inside-is (subst AreHeld (sym w.push_heads.ensures.items) (held_pushed _ _ _ (rw w.in-Heads.is at c.self.invariant) c.requires))
+]

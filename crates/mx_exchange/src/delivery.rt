@@ -1,0 +1,30 @@
+//! What becomes of the body of a response.
+ghost use Rattle.std.specs.Prelude.{◌≡◌};
+ghost use Rattle.mx_reader.specs.Readers.{IsReader, first_reader};
+ghost use Rattle.mx_exchange.specs.Stages.{limit_by};
+
+use mx_reader::Reader;
+use mx_types::Method;
+use std::alloc::Global;
+
+/// Whether the response is held, or its content is handed on as it comes.
+#[derive(Clone, Copy)]
+pub(crate) enum Delivery {
+    /// All its bytes are held.
+    Held,
+    /// The content is handed on, of at most so many bytes, if there is a limit.
+    Flowing(Option<u64>),
+}
+
+impl Delivery {
+    /// The reader of the response to a request of that method.
+    pub(crate) fn reader(self, alloc: Global, method: Method) -> Reader
+        ensures begins { result ≡ first_reader method (limit_by self) }
+        ensures exact { IsReader result }
+    {
+        match self {
+            Delivery::Held => Reader::holding(alloc, method),
+            Delivery::Flowing(most_bytes) => Reader::flowing(alloc, method, most_bytes),
+        }
+    }
+}
