@@ -1,13 +1,13 @@
 -- What came of a worker of a run.
 use Rattle.std.specs.Prelude.{◌≡◌, ℕ, true, false, List, [], ◌∷◌, ◌++◌}
 use Rattle.std.specs.List.{AllByRecursion}
-use mathlib.Core.List.{IsPrefix}
 use Rattle.mx_link.specs.declared.answers.Answer.{Answer}
 use Rattle.mx_gate.specs.Said.{Said, waited}
 use Rattle.mx_chain.specs.Outcomes.{OutcomeValue}
 use Rattle.mx_transfer.specs.Transfers.{TransferState}
 use Rattle.mx_multi.specs.Seats.{SeatView}
 use Rattle.mx_worker.specs.Work.{WorkerRan}
+use Rattle.mx_crew.specs.Gates.{OpensWithin}
 use Rattle.mx_crew.specs.declared.worked.Counts.{Counts}
 
 -- the seat of a worker
@@ -41,7 +41,7 @@ pub record HasWorked {L : Type 0} (history : L → List Answer) (token_of : L �
   pub ends : EndsTry history token_of s t before said counts
 
 -- what contracts see of a worker that has ended: what it counted, its gate, its seat as the run began and as it ended, and all that it was told
--- in the run by its gate
+-- in the run, by the run or by its gate
 pub record WorkedState (L G : Type 0) : Type 0 where
   pub counts : Counts
   pub gate : G
@@ -49,7 +49,8 @@ pub record WorkedState (L G : Type 0) : Type 0 where
   pub last : WorkerSeatView L
   pub said : List Said
 
--- The worker of a slot with this seat and this gate has ended: it began with that seat, and its gate is one that had said all that the slot's had.
+-- The worker of a slot with this seat and this gate has ended: it began with that seat. Its gate is one that had said all that the slot's had, and
+-- opened what was opened in the run.
 pub record IsOfSlot {L G : Type 0} (said : G → List Said) (slot_seat : WorkerSeatView L) (slot_gate : G) (worked : WorkedState L G) : Type 0 where
   pub seat : worked.start ≡ slot_seat
-  pub gate : IsPrefix (said slot_gate) (said worked.gate)
+  pub gate : OpensWithin said (said slot_gate) worked.gate worked.said

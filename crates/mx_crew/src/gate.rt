@@ -1,8 +1,8 @@
 //! A worker's gate in a run.
 ghost use Rattle.std.specs.Prelude.{◌≡◌, ◌∷◌, ◌++◌, true, [], IfOk, IfErr};
-ghost use mathlib.Core.List.{IsPrefix};
 ghost use Rattle.mx_types.specs.Code.{is_link_code};
 ghost use Rattle.mx_gate.specs.Said.{asked, opened, numbered};
+ghost use Rattle.mx_crew.specs.Gates.{OpensWithin, OpensOnce};
 
 use crate::shortage::{Shortages, Watch};
 use crate::starts::{StartReport, Starts};
@@ -41,7 +41,7 @@ impl Before for Brand {
 }
 
 /// A worker's gate in a run. It answers as the gate within, but for these. All that the gate within had said before the run is a beginning of
-/// what it has said.
+/// what it has said, and each link that is opened in the run is opened by it.
 ///
 /// It tells whether its worker has started: a worker asks for the moment first, and where its start is refused memory it waits without
 /// having asked for one.
@@ -60,14 +60,13 @@ pub(crate) struct RunGate<'s, G: Gate, B: Before> {
 }
 
 impl<'s, G: Gate, B: Before> Model for RunGate<'s, G, B> {
-    ghost use mathlib.Core.List.{IsPrefix};
-    ghost use Rattle.mx_crew.specs.Gates.{RunGateState};
+    ghost use Rattle.mx_crew.specs.Gates.{OpensWithin, RunGateState};
 
     ghost Value = { RunGateState G };
 
     ghost view = { λ g. record { gate = g.gate; said = g.said } };
 
-    ghost invariant = { λ g. IsPrefix B.said (G.said g.gate) };
+    ghost invariant = { λ g. OpensWithin G.said B.said g.gate g.said };
 }
 
 impl<'s, G: Gate, B: Before> RunGate<'s, G, B> {
@@ -89,7 +88,7 @@ impl<'s, G: Gate, B: Before> RunGate<'s, G, B> {
     /// The gate within, once its worker has ended, and all that this gate said.
     pub fn into_parts(self) -> (G, History<Said>)
         ensures said { result.1 ≡ self.entry.said }
-        ensures gate { IsPrefix B.said (G.said result.0) }
+        ensures gate { OpensWithin G.said B.said result.0 result.1 }
     {
         let RunGate {
             gate,
@@ -116,7 +115,7 @@ fn open_or_tell<G: Gate>(
     ensures fresh { IfOk result (λ link. G.Link.history link ≡ []) }
     ensures code { IfErr result (λ code. is_link_code code ≡ true) }
     ensures moment { G.latest gate.new ≡ G.latest gate.old }
-    ensures said { IsPrefix (G.said gate.old) (G.said gate.new) }
+    ensures said { OpensOnce (G.said gate.old) (G.said gate.new) (opened endpoint.now (numbered G.Link.token_of result)) }
 {
     let answer = gate.open(endpoint);
     if answer.is_ok() {

@@ -1,7 +1,7 @@
 //! A worker's slot.
 ghost use Rattle.std.specs.Prelude.{◌≡◌, ◌≤◌, ◌∷◌, ◌++◌, [], false, All, IfErr, IfOk, min, vec_capacity, vec_len};
-ghost use mathlib.Core.List.{IsPrefix};
 ghost use Rattle.mx_gate.specs.Said.{waited};
+ghost use Rattle.mx_crew.specs.Gates.{OpensWithin};
 ghost use Rattle.mx_crew.specs.Worked.{EndsTry, HasWorked, IsOfSlot, again_ms};
 
 use crate::beside::Job;
@@ -173,7 +173,7 @@ fn work_at<'m, L: Link, R: Wait + RandomSource + AllocGlobal, G: Gate<Link = L>,
 ) -> Worked<L, G>
     requires { B.said ≡ G.said gate }
     ensures seat { result.start ≡ seat.entry }
-    ensures gate { IsPrefix B.said (G.said result.gate) }
+    ensures gate { OpensWithin G.said B.said result.gate result.said }
 {
     let (seat, start) = shown(seat);
     let mut gate: RunGate<'_, G, B> = RunGate::new(common, gate);

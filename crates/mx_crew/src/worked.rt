@@ -22,7 +22,7 @@ pub struct Counts {
 pub(crate) type SeatThen<L> = Snapshot<WorkerSeat<Queued<L>, Outcome>>;
 
 /// What a worker of a run did, and its gate, which is free again. Contracts see, too, its seat as the run began and as it ended, and all that
-/// its gate said in the run. What it counted is what it did with that seat.
+/// it was told in the run, by the run or by its gate. What it counted is what it did with that seat.
 pub struct Worked<L: Link, G> {
     counts: Counts,
     gate: G,
