@@ -30,3 +30,5 @@ mod table;
 mod told;
 #[cfg(test)]
 mod trials;
+#[cfg(test)]
+mod wrong;

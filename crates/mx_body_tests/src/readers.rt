@@ -1,12 +1,12 @@
 //! Responses that are read in pieces of some lengths, with bytes behind them, by a reader of each kind: one that holds them, and one that hands
 //! their content on. Both say what the table says.
 
-use crate::streams::{REDIRECT, REDIRECTED, is_place, limit_of};
+use crate::streams::{REDIRECT, REDIRECTED, code_before_end, is_place, limit_of};
 use crate::told::are_parts;
+use crate::wrong::{By, first_wrong_of_all, verdict};
 use mx_body::{Part, Stand, heads_len};
 use mx_reader::{Reader, laws};
 use mx_responses_tests_base::response::Response;
-use mx_responses_tests_base::table::responses;
 use mx_types::{Code, OutOfMemory};
 use std::alloc::{AllocError, Global};
 use std::test::Fail;
@@ -69,14 +69,6 @@ fn fed_of(reading: Reading<'_>) -> usize {
             .saturating_mul(reading.len)
             .min(all),
         None => all,
-    }
-}
-
-/// The code of a row before its end; `None` where its end decides.
-fn code_before_end(row: &Response) -> Option<Code> {
-    match row.decided {
-        Some(_) => Some(row.code),
-        None => None,
     }
 }
 
@@ -189,35 +181,11 @@ fn bytes_of(alloc: Global, row: &Response) -> Result<Vec<u8>, AllocError> {
 }
 
 /// The first length of pieces in which a row is read wrongly; 0 where its bytes find no memory.
-fn wrong_len_of(alloc: Global, row: &Response) -> Option<usize> {
+pub(crate) fn wrong_len_of(alloc: Global, row: &Response) -> Option<usize> {
     match bytes_of(alloc, row) {
         Ok(bytes) => wrong_len(alloc, row, &bytes),
         Err(AllocError) => Some(0),
     }
-}
-
-/// A name, and the length of pieces.
-type Wrong = (&'static str, usize);
-
-/// The first of these rows that is read wrongly.
-fn first_wrong(alloc: Global, rows: &[Response]) -> Option<Wrong> {
-    for row in rows {
-        if let Some(len) = wrong_len_of(alloc, row) {
-            return Some((row.name, len));
-        }
-    }
-    None
-}
-
-/// The first of all responses.
-fn first_wrong_of_all(alloc: Global) -> Option<Wrong> {
-    for rows in responses() {
-        let wrong = first_wrong(alloc, rows);
-        if wrong.is_some() {
-            return wrong;
-        }
-    }
-    None
 }
 
 /// Whether a new reader of that kind that reads the redirect has its location.
@@ -241,10 +209,7 @@ fn readers_say_what_is_told(rt: HostRuntime) -> Result<(), Fail> {
     laws::whole_has_all();
     laws::more_is_undecided();
     laws::codes_are_listed();
-    match first_wrong_of_all(rt.alloc()) {
-        Some((name, len)) => Err(Fail::new(format_args!("{name}: in pieces of {len}"))),
-        None => Ok(()),
-    }
+    verdict(first_wrong_of_all(rt.alloc(), By::Readers))
 }
 
 #[test]

@@ -1,13 +1,13 @@
 //! Responses whose content is handed on, in pieces of each length. Each row of the table has the result of a response that is held; rows at
 //! a limit of their own hand on what is within it.
 
+use crate::wrong::{By, Wrong, first_wrong_of_all, verdict};
 use mx_body::Part;
 use mx_flow::{Stand, Stream};
 use mx_head::{Framing, HeadStep, framing, read_head};
 use mx_responses_tests_base::bases::{LARGE, OPEN, SHORT, WHOLE};
 use mx_responses_tests_base::bytes::COUNTED;
 use mx_responses_tests_base::response::Response;
-use mx_responses_tests_base::table::responses;
 use mx_types::{Code, OutOfMemory};
 use std::alloc::{AllocError, Global};
 use std::test::Fail;
@@ -62,7 +62,7 @@ fn taken_of(row: &Response, all: usize, len: usize) -> usize {
 }
 
 /// The code of a row before its end; `None` where its end decides.
-fn code_before_end(row: &Response) -> Option<Code> {
+pub(crate) fn code_before_end(row: &Response) -> Option<Code> {
     match row.decided {
         Some(_) => Some(row.code),
         None => None,
@@ -162,7 +162,7 @@ pub(crate) fn limit_of(row: &Response, bytes: &[u8]) -> u64 {
 }
 
 /// The same of a row of the table; 0 where its bytes find no memory.
-fn wrong_len_of(alloc: Global, row: &Response) -> Option<usize> {
+pub(crate) fn wrong_len_of(alloc: Global, row: &Response) -> Option<usize> {
     match row.bytes(alloc) {
         Ok(bytes) => wrong_len(
             alloc,
@@ -173,30 +173,6 @@ fn wrong_len_of(alloc: Global, row: &Response) -> Option<usize> {
         ),
         Err(AllocError) => Some(0),
     }
-}
-
-/// A name, and the length of pieces.
-type Wrong = (&'static str, usize);
-
-/// The first row of these that isn't handed on so.
-fn first_wrong(alloc: Global, rows: &[Response]) -> Option<Wrong> {
-    for row in rows {
-        if let Some(len) = wrong_len_of(alloc, row) {
-            return Some((row.name, len));
-        }
-    }
-    None
-}
-
-/// The first of all responses.
-fn first_wrong_of_all(alloc: Global) -> Option<Wrong> {
-    for rows in responses() {
-        let wrong = first_wrong(alloc, rows);
-        if wrong.is_some() {
-            return wrong;
-        }
-    }
-    None
 }
 
 /// A response whose body is the content that is handed on, also where it is refused; and the most bytes that its content may have.
@@ -382,7 +358,7 @@ enum Rows {
 /// The first row of them that is wrong.
 fn wrong_in(alloc: Global, rows: Rows) -> Option<Wrong> {
     match rows {
-        Rows::Table => first_wrong_of_all(alloc),
+        Rows::Table => first_wrong_of_all(alloc, By::Stream),
         Rows::Limited => first_wrong_limited(alloc, &LIMITED),
         Rows::Redirect => wrong_redirect(alloc),
     }
@@ -390,10 +366,7 @@ fn wrong_in(alloc: Global, rows: Rows) -> Option<Wrong> {
 
 /// Fails with the first row that is wrong, and the length of pieces.
 fn are_so(alloc: Global, rows: Rows) -> Result<(), Fail> {
-    match wrong_in(alloc, rows) {
-        Some((name, len)) => Err(Fail::new(format_args!("{name}: in pieces of {len}"))),
-        None => Ok(()),
-    }
+    verdict(wrong_in(alloc, rows))
 }
 
 #[test]
