@@ -125,22 +125,23 @@ fn work_of(doing: Doing, there: &Endpoint) -> Work<'_> {
 }
 
 /// What is seen at a new gate over this network.
-fn at<N: Net + Clock + AllocGlobal>(
+fn at<R: Threads, N: Net + Clock + AllocGlobal>(
+    threads: &R,
     rt: &HostRuntime,
     net: &N,
     port: u16,
     row: &Row,
 ) -> Result<Seen, Fail> {
     let there = endpoint(rt.alloc(), row.host, row.port.unwrap_or(port))?;
-    let seen = at_gate(rt, net, work_of(row.doing, &there));
+    let seen = at_gate(threads, rt, net, None, work_of(row.doing, &there));
     drop(there);
     seen
 }
 
 /// What is seen where the listener is at this port.
-fn at_port(rt: &HostRuntime, port: u16, row: &Row) -> Result<Seen, Fail> {
+fn at_port<R: Threads>(threads: &R, rt: &HostRuntime, port: u16, row: &Row) -> Result<Seen, Fail> {
     if !row.by_outside {
-        return at(rt, rt, port, row);
+        return at(threads, rt, rt, port, row);
     }
     let all = [
         v4([127, 0, 0, 2], 0),
@@ -148,24 +149,28 @@ fn at_port(rt: &HostRuntime, port: u16, row: &Row) -> Result<Seen, Fail> {
         v4([127, 0, 0, 1], 0),
     ];
     let outside = Outside::new(rt.alloc(), &all);
-    let seen = at(rt, &outside, port, row);
+    let seen = at(threads, rt, &outside, port, row);
     drop(outside);
     seen
 }
 
-/// The same where a listener accepts nothing.
-fn beside_listener(rt: &HostRuntime, row: &Row) -> Result<Seen, Fail> {
+/// The same where a listener accepts nothing, or nobody listens any more.
+fn unserved<R: Threads>(
+    threads: &R,
+    rt: &HostRuntime,
+    row: &Row,
+    is_there: bool,
+) -> Result<(Seen, bool), Fail> {
     let (listener, port) = listening(rt, "127.0.0.1:0")?;
-    let seen = at_port(rt, port, row);
+    let listener = if is_there {
+        Some(listener)
+    } else {
+        drop(listener);
+        None
+    };
+    let seen = at_port(threads, rt, port, row);
     drop(listener);
-    seen
-}
-
-/// The same where nobody listens any more.
-fn beside_nobody(rt: &HostRuntime, row: &Row) -> Result<Seen, Fail> {
-    let (listener, port) = listening(rt, "127.0.0.1:0")?;
-    drop(listener);
-    at_port(rt, port, row)
+    Ok((seen?, true))
 }
 
 /// The same, and whether a server has served.
@@ -175,7 +180,7 @@ fn beside_server<R: Threads>(
     row: &Row,
 ) -> Result<(Seen, bool), Fail> {
     let (port, server) = one_server(threads, rt, "127.0.0.1:0")?;
-    let seen = at_port(rt, port, row);
+    let seen = at_port(threads, rt, port, row);
     joined(threads, seen, server)
 }
 
@@ -183,8 +188,8 @@ fn beside_server<R: Threads>(
 fn beside<R: Threads>(threads: &R, rt: &HostRuntime, row: &Row) -> Result<(Seen, bool), Fail> {
     match row.there {
         There::Server => beside_server(threads, rt, row),
-        There::Listener => Ok((beside_listener(rt, row)?, true)),
-        There::Nobody => Ok((beside_nobody(rt, row)?, true)),
+        There::Listener => unserved(threads, rt, row, true),
+        There::Nobody => unserved(threads, rt, row, false),
     }
 }
 

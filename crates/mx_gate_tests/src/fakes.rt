@@ -2,7 +2,7 @@
 
 use crate::hosts::addresses;
 use crate::outside::{At, set, v4};
-use mx_names::{Addresses, HostAnswer, Lookup};
+use mx_names::{Addresses, HostAnswer, Lookup, SystemLookup};
 use mx_types::Code;
 use std::alloc::{AllocError, Global};
 use std::net::{IpAddr, SocketAddr};
@@ -79,23 +79,30 @@ impl Seen {
     }
 }
 
-/// A lookup of which this is seen.
-pub(crate) fn lookup(rt: &HostRuntime, seen: &Arc<Seen>) -> Result<Hanging, AllocError> {
+/// A lookup of which this is seen, or one by the system.
+pub(crate) fn lookup(
+    rt: &HostRuntime,
+    seen: &Arc<Seen>,
+    by_system: bool,
+) -> Result<Hanging, AllocError> {
     let seen = Arc::try_clone(seen)?;
     let fake = Fake { alloc: rt.alloc() };
     Ok(Hanging {
         rt: *rt,
         fake,
         seen,
+        by_system,
     })
 }
 
-/// A lookup in which hosts that begin with `hang` hang until they are released, or for ten seconds, and `late` takes 50 milliseconds.
+/// A lookup in which hosts that begin with `hang` hang until they are released, or for ten seconds, and `late` takes 50 milliseconds; or one
+/// by the system.
 #[derive(Drop)]
 pub(crate) struct Hanging {
     rt: HostRuntime,
     fake: Fake,
     seen: Arc<Seen>,
+    by_system: bool,
 }
 
 /// Waits as the lookup of that host does.
@@ -119,6 +126,9 @@ impl Lookup for Hanging {
     ghost gives = { λ host outcome. Unit {0} };
 
     fn look_up(&self, host: &str) -> Result<Addresses, Code> {
+        if self.by_system {
+            return SystemLookup::new(self.rt).look_up(host);
+        }
         hang(&self.rt, &self.seen, host);
         self.fake.look_up(host)
     }

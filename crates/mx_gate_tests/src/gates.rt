@@ -1,10 +1,10 @@
 //! A new gate over sockets, and a new link of it: one function owns each, lends it to what a test does there, and drops it. So a test's own
 //! functions own neither.
 
-use crate::moments::{tells_beside, tells_moments};
+use crate::moments::{tells_moments, tells_since};
 use crate::outside::Outside;
 use crate::peers::{Peer, PeerSignals, meets};
-use crate::turns::{Turns, takes, turns_until_rung};
+use crate::turns::{Turns, takes};
 use mx_gate::{Bell, Gate, SocketGate};
 use mx_link::{Connect, Link, Read, Write};
 use mx_request::Endpoint;
@@ -14,7 +14,7 @@ use std::io::{Read as _, Write as _};
 use std::net::{Net, TcpListener, TcpStream};
 use std::rt::Clock;
 use std::sync::Arc;
-use std::sync::atomic::AtomicBool;
+use std::sync::atomic::{AtomicBool, Ordering};
 use std::test::Fail;
 use std::thread;
 use std::thread::{JoinHandle, Threads};
@@ -32,6 +32,8 @@ pub(crate) enum Task<'a> {
     Fail,
     /// It sees that the link has this token.
     Token(u64),
+    /// It sees that the connection is made.
+    Connect,
     /// It meets a peer that waits until the test has it go on, and offers these bytes in each write.
     Meet(&'a PeerSignals, Peer, &'a [u8]),
 }
@@ -47,12 +49,14 @@ pub(crate) enum Work<'a> {
     Turns(Turns),
     /// It moves the clock.
     Moments(&'a Outside<'a>),
-    /// The same, with a second gate that has the start of the first.
-    Beside(&'a Outside<'a>),
+    /// It moves the clock, of a gate that began then.
+    Since(&'a Outside<'a>, Instant),
+    /// It opens a link to the endpoint, again where memory was refused, which it says here.
+    Again(&'a Endpoint, &'a AtomicBool),
 }
 
 /// What is seen: nothing where something isn't as it should be, else how many bytes its peer has to have read; or the code with which no
-/// link is opened.
+/// link is opened, which is `OutOfMemory` where memory for the gate was refused, too.
 pub(crate) type Seen = Result<Option<u64>, Code>;
 
 /// All is as it should be.
@@ -105,6 +109,7 @@ fn do_task<G: Gate>(
         Task::Send => sends_and_reads(gate, link).then_some(0),
         Task::Fail => (connect(gate, link) == Connect::Fault).then_some(0),
         Task::Token(token) => (link.token() == token).then_some(0),
+        Task::Connect => (connect(gate, link) == Connect::Done).then_some(0),
         Task::Meet(told, peer, bytes) => meets(rt, gate, link, told, peer, bytes),
     }
 }
@@ -152,23 +157,37 @@ impl<'r, N: Net + Clock + AllocGlobal> Ringed for SocketGate<'r, N> {
     }
 }
 
-fn do_work<G: Gate + Ringed>(
+/// What is seen at a new link, which is opened again where memory was refused.
+fn at_link_again<G: Gate>(
+    rt: &HostRuntime,
+    gate: &mut G,
+    there: &Endpoint,
+    again: &AtomicBool,
+) -> Seen {
+    let seen = at_link(rt, gate, there, Task::Connect);
+    if seen != Err(Code::OutOfMemory) {
+        return seen;
+    }
+    again.store(true, Ordering::SeqCst);
+    at_link(rt, gate, there, Task::Connect)
+}
+
+fn do_work<R: Threads, G: Gate + Ringed>(
+    threads: &R,
     rt: &HostRuntime,
     gate: &mut G,
     stop: &AtomicBool,
     work: Work<'_>,
-) -> Result<Seen, Fail> {
+) -> Seen {
     let is_right = match work {
-        Work::Link(there, task) => return Ok(at_link(rt, gate, there, task)),
+        Work::Link(there, task) => return at_link(rt, gate, there, task),
+        Work::Again(there, again) => return at_link_again(rt, gate, there, again),
         Work::Tokens(there) => has_three_tokens(rt, gate, there),
-        Work::Turns(turns) => takes(rt, gate, stop, turns)?,
+        Work::Turns(turns) => takes(threads, rt, gate, stop, turns),
         Work::Moments(outside) => tells_moments(outside, gate),
-        Work::Beside(outside) => {
-            let start = gate.begun();
-            tells_beside(outside, start, gate)?
-        }
+        Work::Since(outside, start) => tells_since(outside, start, gate),
     };
-    Ok(Ok(is_right.then_some(0)))
+    Ok(is_right.then_some(0))
 }
 
 /// A flag that isn't set.
@@ -184,27 +203,52 @@ pub(crate) fn given<T>(given: Result<T, Code>) -> Result<T, Fail> {
     }
 }
 
-/// What is seen at a new gate over this network.
-pub(crate) fn at_gate<N: Net + Clock + AllocGlobal>(
+// What is seen at a gate, which is dropped then.
+fn at_given<R: Threads, G: Gate + Ringed + Drop>(
+    threads: &R,
+    rt: &HostRuntime,
+    gate: G,
+    stop: &AtomicBool,
+    work: Work<'_>,
+) -> Seen {
+    let mut gate = gate;
+    do_work(threads, rt, &mut gate, stop, work)
+}
+
+// What is seen at a new gate over this network, which is stopped by the flag. No other function makes a gate over sockets: in each one that
+// knows which gate it has, it is proved anew that this is one.
+fn at_new<R: Threads, N: Net + Clock + AllocGlobal>(
+    threads: &R,
     rt: &HostRuntime,
     net: &N,
+    stop: Arc<AtomicBool>,
+    flag: &AtomicBool,
+    start: Option<Instant>,
+    work: Work<'_>,
+) -> Result<Seen, Fail> {
+    let gate = match start {
+        Some(start) => SocketGate::starting_at(net, stop, start),
+        None => SocketGate::new(net, stop),
+    };
+    match gate {
+        Ok(gate) => Ok(at_given(threads, rt, gate, flag, work)),
+        Err(Code::OutOfMemory) => Ok(Err(Code::OutOfMemory)),
+        Err(code) => Err(Fail::from(code.number())),
+    }
+}
+
+/// What is seen at a new gate over this network, which began then, or begins now.
+pub(crate) fn at_gate<R: Threads, N: Net + Clock + AllocGlobal>(
+    threads: &R,
+    rt: &HostRuntime,
+    net: &N,
+    start: Option<Instant>,
     work: Work<'_>,
 ) -> Result<Seen, Fail> {
     let stop = flag(rt.alloc())?;
-    let mut gate = given(SocketGate::new(net, Arc::try_clone(&stop)?))?;
-    let seen = do_work(rt, &mut gate, &stop, work);
-    drop(gate);
+    let seen = at_new(threads, rt, net, Arc::try_clone(&stop)?, &stop, start, work);
     drop(stop);
     seen
-}
-
-/// Whether the gate that a thread rings after a while ends its turn then.
-pub(crate) fn is_rung_at_gate<R: Threads>(threads: &R, rt: &HostRuntime) -> Result<bool, Fail> {
-    let stop = flag(rt.alloc())?;
-    let mut gate = given(SocketGate::new(rt, stop))?;
-    let is_rung = turns_until_rung(threads, rt, &mut gate);
-    drop(gate);
-    is_rung
 }
 
 /// A listener at a port of this address that was free, and that port.

@@ -12,7 +12,7 @@ pub fn addresses(alloc: Global, all: &[SocketAddr]) -> Result<Addresses, Code>
     ensures all { IfOk result (λ addresses. addresses ≡ all.now) }
     ensures code { IfErr result (λ code. is_lookup_code code ≡ true) }
 {
-    let Ok(all) = all.iter().copied().collect::<Vec<SocketAddr>>(alloc) else {
+    let Ok(all) = Vec::from_slice(alloc, all) else {
         return Err(Code::OutOfMemory);
     };
     match Addresses::new(all) {

@@ -1,11 +1,12 @@
 //! Moments of gates over sockets, by a clock of the tests' own.
 
-use crate::gates::{RIGHT, Work, at_gate, flag, given};
+use crate::gates::{RIGHT, Ringed, Work, at_gate, flag};
 use crate::outside::Outside;
 use mx_gate::{Gate, SocketGate};
 use mx_types::Code;
 use std::sync::atomic::Ordering;
 use std::test::Fail;
+use std::thread::Threads;
 use std::time::Instant;
 
 /// The moment of a gate, once the clock is set to that.
@@ -25,34 +26,23 @@ pub(crate) fn tells_moments<G: Gate>(outside: &Outside<'_>, gate: &mut G) -> boo
     [begun, later, fallen, broken, gate.now()] == [0, 500, 500, 500, 1000]
 }
 
-/// Two gates that began at 1000 give the same moments.
-fn tell_the_same<G: Gate, H: Gate>(outside: &Outside<'_>, one: &mut G, two: &mut H) -> bool {
-    outside.milliseconds.store(1400, Ordering::SeqCst);
-    let early = (one.now(), two.now());
-    outside.milliseconds.store(2500, Ordering::SeqCst);
-    let late = (one.now(), two.now());
-    early == (400, 400) && late == (1500, 1500)
-}
-
-/// A gate that began at 1000, and a new one with its start, do so.
-pub(crate) fn tells_beside<G: Gate>(
+/// A gate that began at 1000, as it says.
+pub(crate) fn tells_since<G: Gate + Ringed>(
     outside: &Outside<'_>,
     start: Instant,
-    one: &mut G,
-) -> Result<bool, Fail> {
-    outside.milliseconds.store(1400, Ordering::SeqCst);
-    let stop = flag(outside.alloc)?;
-    let mut two = given(SocketGate::starting_at(outside, stop, start))?;
-    let is_so = tell_the_same(outside, one, &mut two);
-    drop(two);
-    Ok(is_so)
+    gate: &mut G,
+) -> bool {
+    let early = moment_at(outside, gate, 1400);
+    let late = moment_at(outside, gate, 2500);
+    gate.begun() == start && (early, late) == (400, 1500)
 }
 
 /// What is done with a clock.
 #[derive(Clone, Copy)]
 enum Doing {
     Moments,
-    Beside,
+    /// A gate that begins now, and a later one that has its start, give the same moments.
+    Same,
     /// No gate is made while the clock is broken.
     Broken,
 }
@@ -62,7 +52,7 @@ static ROWS: [(&'static str, Doing); 3] = [
         "moments_stay_where_the_clock_fails_or_falls",
         Doing::Moments,
     ),
-    ("gates_with_one_start_tell_the_same_moments", Doing::Beside),
+    ("gates_with_one_start_tell_the_same_moments", Doing::Same),
     ("a_gate_without_a_clock_is_refused", Doing::Broken),
 ];
 
@@ -74,11 +64,32 @@ fn is_refused(outside: &Outside<'_>) -> Result<bool, Fail> {
     Ok(refused == Some(Code::CouldntConnect))
 }
 
-fn is_so(rt: &HostRuntime, outside: &Outside<'_>, doing: Doing) -> Result<bool, Fail> {
+/// Whether two gates with one start give the same moments, one that begins at 1000, and one that is made at 1400.
+fn are_same<R: Threads>(
+    threads: &R,
+    rt: &HostRuntime,
+    outside: &Outside<'_>,
+) -> Result<bool, Fail> {
+    let start = Instant::now(outside)?;
+    let work = Work::Since(outside, start);
+    let one = at_gate(threads, rt, outside, None, work)?;
+    outside.milliseconds.store(1400, Ordering::SeqCst);
+    let two = at_gate(threads, rt, outside, Some(start), work)?;
+    Ok(one == RIGHT && two == RIGHT)
+}
+
+fn is_so<R: Threads>(
+    threads: &R,
+    rt: &HostRuntime,
+    outside: &Outside<'_>,
+    doing: Doing,
+) -> Result<bool, Fail> {
     outside.milliseconds.store(1000, Ordering::SeqCst);
     match doing {
-        Doing::Moments => Ok(at_gate(rt, outside, Work::Moments(outside))? == RIGHT),
-        Doing::Beside => Ok(at_gate(rt, outside, Work::Beside(outside))? == RIGHT),
+        Doing::Moments => {
+            Ok(at_gate(threads, rt, outside, None, Work::Moments(outside))? == RIGHT)
+        }
+        Doing::Same => are_same(threads, rt, outside),
         Doing::Broken => is_refused(outside),
     }
 }
@@ -87,7 +98,7 @@ fn is_so(rt: &HostRuntime, outside: &Outside<'_>, doing: Doing) -> Result<bool, 
 fn moments(rt: HostRuntime) -> Result<(), Fail> {
     for row in &ROWS {
         let outside = Outside::new(rt.alloc(), &[]);
-        let so = is_so(&rt, &outside, row.1);
+        let so = is_so(&rt, &rt, &outside, row.1);
         drop(outside);
         if !so? {
             return Err(row.0.into());

@@ -1,6 +1,7 @@
 //! What is known of hosts: a row is the calls of a table of names, and what each answers.
 
 use crate::fakes::{Fake, says};
+use crate::outside::verdict;
 use mx_names::{Finding, Names, spelled};
 use mx_types::OutOfMemory;
 use std::alloc::Global;
@@ -21,40 +22,40 @@ enum Step {
     Forget(&'static str),
 }
 
-fn begin(
+/// Whether a lookup of a host begins, or doesn't, as said. False where memory is refused, here and below.
+fn begins(
     alloc: Global,
     names: &mut Names<Fake>,
     host: &str,
-    since: u64,
-    now: u64,
-) -> Result<bool, OutOfMemory> {
+    moments: (u64, u64),
+    said: bool,
+) -> bool {
     match spelled(host) {
-        Some(_) => Ok(false),
-        None => names.begin(alloc, host, since, now),
+        Some(_) => !said,
+        None => match names.begin(alloc, host, moments.0, moments.1) {
+            Ok(begins) => begins == said,
+            Err(OutOfMemory) => false,
+        },
     }
 }
 
 /// Whether a lookup of the host of this number begins.
-fn begin_numbered(
-    alloc: Global,
-    names: &mut Names<Fake>,
-    number: u64,
-) -> Result<bool, OutOfMemory> {
-    let host = format!(in alloc; "host{number}")?;
-    let begins = begin(alloc, names, host.as_str(), 0, 0);
-    drop(host);
-    begins
+fn begins_numbered(alloc: Global, names: &mut Names<Fake>, number: u64) -> bool {
+    match format!(in alloc; "host{number}") {
+        Ok(host) => begins(alloc, names, host.as_str(), (0, 0), true),
+        Err(_) => false,
+    }
 }
 
 /// Of how many of so many hosts a lookup begins.
-fn begin_many(alloc: Global, names: &mut Names<Fake>, count: u64) -> Result<u64, OutOfMemory> {
+fn begin_many(alloc: Global, names: &mut Names<Fake>, count: u64) -> u64 {
     let mut begun = 0u64;
     for number in 0..count {
-        if begin_numbered(alloc, names, number)? {
+        if begins_numbered(alloc, names, number) {
             begun = begun.saturating_add(1);
         }
     }
-    Ok(begun)
+    begun
 }
 
 /// Whether this is what is known of a host, as numbers.
@@ -64,77 +65,58 @@ fn is_known(
     host: &str,
     moments: (u64, u64),
     numbers: &[u64],
-) -> Result<bool, OutOfMemory> {
-    let answer = names.ask(alloc, host, moments.0, moments.1)?;
-    let is_so = says(&answer, numbers);
-    drop(answer);
-    Ok(is_so)
+) -> bool {
+    match names.ask(alloc, host, moments.0, moments.1) {
+        Ok(answer) => says(&answer, numbers),
+        Err(OutOfMemory) => false,
+    }
 }
 
-/// Whether what the lookup of a host gives is learnt.
-fn learn(
-    alloc: Global,
-    names: &mut Names<Fake>,
-    host: &str,
-    now: u64,
-) -> Result<bool, OutOfMemory> {
-    let host = String::from_str(alloc, host)?;
-    let finding = Finding::by(&Fake { alloc }, alloc, host);
-    Ok(names.learn(finding, now))
+/// Whether what the lookup of a host gives is learnt, or isn't, as said.
+fn learns(alloc: Global, names: &mut Names<Fake>, host: &str, now: u64, said: bool) -> bool {
+    match String::from_str(alloc, host) {
+        Ok(host) => names.learn(Finding::by(&Fake { alloc }, alloc, host), now) == said,
+        Err(_) => false,
+    }
 }
 
-fn is_as_said(alloc: Global, names: &mut Names<Fake>, step: &Step) -> Result<bool, OutOfMemory> {
-    match *step {
+fn is_as_said(alloc: Global, names: &mut Names<Fake>, step: Step) -> bool {
+    match step {
         Step::Ask(host, since, now, numbers) => {
             is_known(alloc, names, host, (since, now), numbers)
         }
-        Step::Begin(host, since, now, begins) => {
-            Ok(begin(alloc, names, host, since, now)? == begins)
-        }
-        Step::BeginMany(count, begun) => Ok(begin_many(alloc, names, count)? == begun),
-        Step::Learn(host, now, learns) => Ok(learn(alloc, names, host, now)? == learns),
+        Step::Begin(host, since, now, said) => begins(alloc, names, host, (since, now), said),
+        Step::BeginMany(count, begun) => begin_many(alloc, names, count) == begun,
+        Step::Learn(host, now, said) => learns(alloc, names, host, now, said),
         Step::Forget(host) => {
             names.forget(host);
-            Ok(true)
+            true
         }
     }
 }
 
 /// The first step that fails.
-fn first_wrong(
-    alloc: Global,
-    names: &mut Names<Fake>,
-    steps: &[Step],
-) -> Result<Option<usize>, OutOfMemory> {
+fn first_wrong(alloc: Global, names: &mut Names<Fake>, steps: &[Step]) -> Option<usize> {
     for place in 0..steps.len() {
-        if !is_as_said(alloc, names, &steps[place])? {
-            return Ok(Some(place));
+        if !is_as_said(alloc, names, steps[place]) {
+            return Some(place);
         }
     }
-    Ok(None)
+    None
 }
 
 /// The same, of a new table.
-fn first_wrong_of(alloc: Global, steps: &[Step]) -> Result<Option<usize>, OutOfMemory> {
+fn first_wrong_of(alloc: Global, steps: &[Step]) -> Option<usize> {
     let mut names = Names::new(alloc);
     let wrong = first_wrong(alloc, &mut names, steps);
     drop(names);
     wrong
 }
 
-/// Fails with the row of which a step fails, and with that step.
-fn play(alloc: Global, row: &Row) -> Result<(), Fail> {
-    let name = row.name;
-    match first_wrong_of(alloc, row.steps)? {
-        Some(step) => Err(Fail::new(format_args!("{name}: step {step} answers something else"))),
-        None => Ok(()),
-    }
-}
-
-/// Fails with the first of these rows.
+/// Fails with the first row of which a step fails, and with that step.
 fn play_each(alloc: Global) -> Result<(), Fail> {
     for row in &ROWS {
-        play(alloc, row)?;
+        verdict(row.name, first_wrong_of(alloc, row.steps))?;
     }
     Ok(())
 }

@@ -7,12 +7,21 @@ use std::io;
 use std::net::{Ipv4Addr, Ipv6Addr, Net, SocketAddr, TcpListener, TcpStream};
 use std::rt::Clock;
 use std::sync::atomic::{AtomicBool, AtomicU64, Ordering};
+use std::test::Fail;
 use std::time::Duration;
 
 /// The endpoint of a host and a port.
 pub(crate) fn endpoint(alloc: Global, host: &str, port: u16) -> Result<Endpoint, AllocError> {
     let host = String::from_str(alloc, host)?;
     Ok(Endpoint { host, port })
+}
+
+/// The end of a row: it fails with the row and the step that is wrong.
+pub(crate) fn verdict(row: &'static str, wrong: Option<usize>) -> Result<(), Fail> {
+    match wrong {
+        Some(step) => Err(Fail::new(format_args!("{row}: step {step} answers something else"))),
+        None => Ok(()),
+    }
 }
 
 /// An address of these bytes.
@@ -113,9 +122,9 @@ impl Net for Outside<'_> {
             return Err(io::Error::from(kind));
         }
         let count = self.addresses.len().min(found.len());
-        for (slot, address) in found.iter_mut().zip(self.addresses) {
-            *slot = *address;
-            slot.set_port(port);
+        for at in 0..count {
+            found[at] = self.addresses[at];
+            found[at].set_port(port);
         }
         Ok(count)
     }

@@ -6,8 +6,7 @@ use mx_gate::{Gate, ScriptGate, Turn};
 use mx_link::ScriptLink;
 use mx_named_gate::PacedGate;
 use mx_request::Endpoint;
-use mx_types::OutOfMemory;
-use std::alloc::{AllocError, Global};
+use std::alloc::Global;
 
 /// A call of the gate, with what it is to answer.
 #[derive(Clone, Copy)]
@@ -93,39 +92,27 @@ static ROWS: [Row; 5] = [
     },
 ];
 
-// Plans that so many links are opened.
-fn plan_links(
-    alloc: Global,
-    gate: &mut ScriptGate<ScriptLink>,
-    count: u32,
-) -> Result<(), OutOfMemory> {
+// Plans that so many links are opened. False where memory is refused, here and below.
+fn plan_links(alloc: Global, gate: &mut ScriptGate<ScriptLink>, count: u32) -> bool {
+    let mut all = true;
     for _ in 0..count {
-        plan_link(alloc, gate)?;
+        all = plan_link(alloc, gate) & all;
     }
-    Ok(())
+    all
 }
 
 // Plans what the gate within is to answer for these steps.
-fn plan(
-    alloc: Global,
-    gate: &mut ScriptGate<ScriptLink>,
-    steps: &[Step],
-) -> Result<(), OutOfMemory> {
+fn plan(alloc: Global, gate: &mut ScriptGate<ScriptLink>, steps: &[Step]) -> bool {
+    let mut all = true;
     for step in steps {
-        match *step {
-            Step::Now(moment) => plan_moment(gate, moment)?,
-            Step::Opens(_, count) => plan_links(alloc, gate, count)?,
-            _ => {}
-        }
+        let is_planned = match *step {
+            Step::Now(moment) => plan_moment(gate, moment),
+            Step::Opens(_, count) => plan_links(alloc, gate, count),
+            _ => true,
+        };
+        all = is_planned & all;
     }
-    Ok(())
-}
-
-// A gate within, which answers so.
-fn within(alloc: Global, steps: &[Step]) -> Result<ScriptGate<ScriptLink>, OutOfMemory> {
-    let mut gate: ScriptGate<ScriptLink> = ScriptGate::new(alloc, u32::MAX);
-    plan(alloc, &mut gate, steps)?;
-    Ok(gate)
+    all
 }
 
 // Whether the gate can open a link to the endpoint, and does.
@@ -133,67 +120,66 @@ fn opens_to<G: Gate>(gate: &mut G, there: &Endpoint) -> bool {
     gate.can_open(there) && gate.open(there).is_ok()
 }
 
-// Whether it can open a link to this host, and does where that is asked for.
-fn can<G: Gate>(
-    alloc: Global,
-    gate: &mut G,
-    host: &str,
-    is_opened: bool,
-) -> Result<bool, AllocError> {
-    let there = endpoint(alloc, host, 80)?;
+// Whether it can open a link to this host, or can't, as said; and does where that is asked for.
+fn can<G: Gate>(alloc: Global, gate: &mut G, host: &str, is_opened: bool, said: bool) -> bool {
+    let Ok(there) = endpoint(alloc, host, 80) else {
+        return false;
+    };
     let can = if is_opened {
         opens_to(gate, &there)
     } else {
         gate.can_open(&there)
     };
     drop(there);
-    Ok(can)
+    can == said
 }
 
 // Whether it can open so many, and does.
-fn opens<G: Gate>(alloc: Global, gate: &mut G, host: &str, count: u32) -> Result<bool, AllocError> {
+fn opens<G: Gate>(alloc: Global, gate: &mut G, host: &str, count: u32) -> bool {
     let mut all = true;
     for _ in 0..count {
-        all = can(alloc, gate, host, true)? && all;
+        all = can(alloc, gate, host, true, true) & all;
     }
-    Ok(all)
+    all
 }
 
 // Takes the step: whether it answers so.
-fn is_so<G: Gate>(alloc: Global, gate: &mut G, step: Step) -> Result<bool, AllocError> {
+fn is_so<G: Gate>(alloc: Global, gate: &mut G, step: Step) -> bool {
     match step {
-        Step::Now(moment) => Ok(gate.now() == moment),
-        Step::Can(host, answer) => Ok(can(alloc, gate, host, false)? == answer),
+        Step::Now(moment) => gate.now() == moment,
+        Step::Can(host, said) => can(alloc, gate, host, false, said),
         Step::Opens(host, count) => opens(alloc, gate, host, count),
-        Step::Turn(wait_ms) => Ok(gate.turn(wait_ms) == Turn::Continue),
+        Step::Turn(wait_ms) => gate.turn(wait_ms) == Turn::Continue,
     }
 }
 
 // Takes all steps: whether each answers so.
-fn are_so<G: Gate>(alloc: Global, gate: &mut G, steps: &[Step]) -> Result<bool, AllocError> {
+fn are_so<G: Gate>(alloc: Global, gate: &mut G, steps: &[Step]) -> bool {
     let mut all = true;
     for step in steps {
-        all = is_so(alloc, gate, *step)? && all;
+        all = is_so(alloc, gate, *step) & all;
     }
-    Ok(all)
+    all
 }
 
 // Whether each step answers so, and the gate within waited so long.
-fn is_right(alloc: Global, row: &Row) -> Result<bool, OutOfMemory> {
-    let mut gate = PacedGate::new(within(alloc, row.steps)?);
+fn is_right(alloc: Global, row: &Row) -> bool {
+    let mut within: ScriptGate<ScriptLink> = ScriptGate::new(alloc, u32::MAX);
+    let is_planned = plan(alloc, &mut within, row.steps);
+    let mut gate = PacedGate::new(within);
     let are_so = are_so(alloc, &mut gate, row.steps);
     let within = gate.into_inner();
     let waited = within.last_wait();
     drop(within);
-    Ok(are_so? && waited == row.waited)
+    is_planned & are_so & (waited == row.waited)
 }
 
 /// The first row that isn't so.
-pub(crate) fn wrong_row(alloc: Global) -> Result<Option<&'static str>, OutOfMemory> {
+pub(crate) fn wrong_row(alloc: Global) -> Option<&'static str> {
     for row in &ROWS {
-        if !is_right(alloc, row)? {
-            return Ok(Some(row.name));
+        if !is_right(alloc, row) {
+            return Some(row.name);
         }
     }
-    Ok(None)
+    None
 }

@@ -265,11 +265,17 @@ fn peer_there<R: Threads>(
 }
 
 /// What is seen at a link to the peer at this port.
-fn meet(rt: &HostRuntime, port: u16, told: &PeerSignals, peer: Peer) -> Result<Option<u64>, Fail> {
+fn meet<R: Threads>(
+    threads: &R,
+    rt: &HostRuntime,
+    port: u16,
+    told: &PeerSignals,
+    peer: Peer,
+) -> Result<Option<u64>, Fail> {
     let there = endpoint(rt.alloc(), "127.0.0.1", port)?;
     let bytes = vec![in rt.alloc(); b'x'; OFFERED]?;
     let work = Work::Link(&there, Task::Meet(told, peer, bytes.as_slice()));
-    let seen = at_gate(rt, rt, work);
+    let seen = at_gate(threads, rt, rt, None, work);
     drop(there);
     drop(bytes);
     Ok(seen?.ok().flatten())
@@ -283,7 +289,7 @@ fn is_met_by<R: Threads>(
     peer: Peer,
 ) -> Result<bool, Fail> {
     let (port, there) = peer_there(threads, rt, Arc::try_clone(told)?, peer)?;
-    let near = meet(rt, port, told, peer);
+    let near = meet(threads, rt, port, told, peer);
     let (near, far) = joined(threads, near, there)?;
     Ok(near.is_some() && near == far)
 }

@@ -1,5 +1,6 @@
 //! Links over a link that answers as planned: a row has those answers, the calls, and what each call answers.
 
+use crate::outside::verdict;
 use crate::peers::write;
 use mx_gate::{ReadyLink, Signals};
 use mx_link::{Link, Read, ScriptLink, ScriptRead, Write};
@@ -10,11 +11,13 @@ use std::test::Fail;
 
 /// A call of a link with its expected answer, or what is reported of connections.
 #[derive(Clone, Copy)]
-pub(crate) enum Step {
-    /// A read into a buffer of one or two dashes, and the buffer after it.
-    Read(Read, &'static [u8]),
-    /// A write of these bytes, one at least.
-    Write(&'static [u8], Write),
+enum Step {
+    /// A read into a buffer of two dashes, and the buffer after it.
+    Read(Read, [u8; 2]),
+    /// A read into a buffer of one dash, which is then full of this byte.
+    ReadOne(u8),
+    /// A write of the last so many of three bytes, one at least.
+    Write(usize, Write),
     /// The connections from one token to before another may be read.
     TellReads(u64, u64),
     /// The other side of the connection of a token sends no more.
@@ -25,22 +28,22 @@ pub(crate) enum Step {
     Failures(u64),
 }
 
-const NOTHING: Step = Step::Read(Read::WouldBlock, b"--");
+const NOTHING: Step = Step::Read(Read::WouldBlock, *b"--");
 
-const END: Step = Step::Read(Read::End, b"--");
+const END: Step = Step::Read(Read::End, *b"--");
 
 const TELL_READ: Step = Step::TellReads(0, 1);
 
-const NO_ROOM: Step = Step::Write(b"abc", Write::WouldBlock);
+const NO_ROOM: Step = Step::Write(3, Write::WouldBlock);
 
-pub(crate) struct Row {
+struct Row {
     name: &'static str,
     reads: &'static [ScriptRead<'static>],
     writes: &'static [Write],
     steps: &'static [Step],
 }
 
-pub(crate) static ROWS: [Row; 5] = [
+static ROWS: [Row; 5] = [
     // rule gate-waiting-link
     Row {
         name: "a_link_that_waits_to_read_is_asked_once",
@@ -58,7 +61,7 @@ pub(crate) static ROWS: [Row; 5] = [
             Step::TellWrite(0),
             NOTHING,
             TELL_READ,
-            Step::Read(Read::Bytes(2), b"ab"),
+            Step::Read(Read::Bytes(2), *b"ab"),
             NOTHING,
             NOTHING,
             TELL_READ,
@@ -77,8 +80,8 @@ pub(crate) static ROWS: [Row; 5] = [
             TELL_READ,
             NO_ROOM,
             Step::TellWrite(0),
-            Step::Write(b"abc", Write::Bytes(2)),
-            Step::Write(b"c", Write::Fault),
+            Step::Write(3, Write::Bytes(2)),
+            Step::Write(1, Write::Fault),
             Step::Failures(1),
         ],
     },
@@ -107,15 +110,15 @@ pub(crate) static ROWS: [Row; 5] = [
         ],
         writes: &[],
         steps: &[
-            Step::Read(Read::Bytes(1), b"a-"),
+            Step::Read(Read::Bytes(1), *b"a-"),
             NOTHING,
             Step::TellWrite(0),
             NOTHING,
             TELL_READ,
-            Step::Read(Read::Bytes(2), b"bc"),
-            Step::Read(Read::Bytes(1), b"d-"),
+            Step::Read(Read::Bytes(2), *b"bc"),
+            Step::Read(Read::Bytes(1), *b"d-"),
             NOTHING,
-            Step::Read(Read::Bytes(1), b"e"),
+            Step::ReadOne(b'e'),
             END,
             Step::Failures(0),
         ],
@@ -131,30 +134,40 @@ pub(crate) static ROWS: [Row; 5] = [
         writes: &[],
         steps: &[
             Step::TellEnd(1),
-            Step::Read(Read::Bytes(1), b"a-"),
+            Step::Read(Read::Bytes(1), *b"a-"),
             NOTHING,
             Step::TellEnd(0),
             TELL_READ,
-            Step::Read(Read::Bytes(1), b"b-"),
+            Step::Read(Read::Bytes(1), *b"b-"),
             END,
             Step::Failures(0),
         ],
     },
 ];
 
-/// Reads into as many dashes as there are bytes, one or two, and compares.
-fn reads<L: Link>(link: &mut ReadyLink<L>, answer: Read, bytes: &[u8]) -> bool {
+/// Reads into two dashes, and compares.
+fn reads<L: Link>(link: &mut ReadyLink<L>, answer: Read, bytes: [u8; 2]) -> bool {
     let mut buffer = [b'-'; 2];
-    let len = if bytes.len() == 1 { 1 } else { 2 };
-    let read = link.try_read(&mut buffer[..len]);
-    read == answer && buffer.starts_with(bytes)
+    let read = link.try_read(&mut buffer);
+    read == answer && buffer == bytes
+}
+
+/// Reads into one dash, and compares.
+fn reads_one<L: Link>(link: &mut ReadyLink<L>, byte: u8) -> bool {
+    let mut buffer = [b'-'; 1];
+    let read = link.try_read(&mut buffer);
+    read == Read::Bytes(1) && buffer[0] == byte
 }
 
 /// Takes the step: whether it answers so.
 fn is_so<L: Link>(link: &mut ReadyLink<L>, signals: &Signals, step: Step) -> bool {
     match step {
         Step::Read(answer, bytes) => reads(link, answer, bytes),
-        Step::Write(bytes, answer) => write(link, bytes) == answer,
+        Step::ReadOne(byte) => reads_one(link, byte),
+        Step::Write(count, answer) => {
+            let bytes = b"abc";
+            write(link, &bytes[3 - count.min(3)..]) == answer
+        }
         Step::Failures(count) => link.failures() == count,
         Step::TellReads(from, to) => {
             for token in from..to {
@@ -187,24 +200,15 @@ fn first_wrong<L: Link>(
     None
 }
 
-/// A link over the row's script that is told by these signals.
-fn link(
-    alloc: Global,
-    row: &Row,
-    signals: &Arc<Signals>,
-) -> Result<ReadyLink<ScriptLink>, OutOfMemory> {
-    let script = ScriptLink::new(alloc, row.reads, row.writes)?;
-    let signals = Arc::try_clone(signals)?;
-    Ok(ReadyLink::over(script, signals))
-}
-
-/// The same, of such a link.
+/// The same, of a link over the row's script that is told by these signals.
 fn first_wrong_by(
     alloc: Global,
     row: &Row,
     signals: &Arc<Signals>,
 ) -> Result<Option<usize>, OutOfMemory> {
-    let mut link = link(alloc, row, signals)?;
+    let script = ScriptLink::new(alloc, row.reads, row.writes)?;
+    let told = Arc::try_clone(signals)?;
+    let mut link = ReadyLink::over(script, told);
     let wrong = first_wrong(&mut link, signals, row.steps);
     drop(link);
     Ok(wrong)
@@ -212,20 +216,16 @@ fn first_wrong_by(
 
 /// The same, by new signals.
 fn first_wrong_of(alloc: Global, row: &Row) -> Result<Option<usize>, OutOfMemory> {
-    let signals = Signals::new(alloc)?;
-    let signals = Arc::new(alloc, signals)?;
+    let signals = Arc::new(alloc, Signals::new(alloc)?)?;
     let wrong = first_wrong_by(alloc, row, &signals);
     drop(signals);
     wrong
 }
 
 /// Fails with the first row that isn't so, and names it.
-pub(crate) fn are_so(alloc: Global, rows: &[Row]) -> Result<(), Fail> {
-    for row in rows {
-        if let Some(place) = first_wrong_of(alloc, row)? {
-            let name = row.name;
-            return Err(format!(in alloc; "{name}: step {place} answers something else")?.into());
-        }
+pub(crate) fn are_so(alloc: Global) -> Result<(), Fail> {
+    for row in &ROWS {
+        verdict(row.name, first_wrong_of(alloc, row)?)?;
     }
     Ok(())
 }

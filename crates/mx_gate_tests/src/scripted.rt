@@ -1,11 +1,11 @@
 //! Gates that follow a script: a row is what a gate is planned to answer, the calls of it, and what each answers.
 
-use crate::outside::endpoint;
+use crate::outside::{endpoint, verdict};
 use crate::{paced, ready};
 use mx_gate::{Gate, ScriptGate, Turn};
 use mx_link::{Link, ScriptLink};
 use mx_request::Endpoint;
-use mx_types::{Code, OutOfMemory};
+use mx_types::Code;
 use std::alloc::Global;
 use std::test::Fail;
 
@@ -110,52 +110,38 @@ fn opened(gate: &mut ScriptGate<ScriptLink>, there: &Endpoint) -> Result<u64, Co
     Ok(token)
 }
 
-/// Plans that a link is opened.
-pub(crate) fn plan_link(
-    alloc: Global,
-    gate: &mut ScriptGate<ScriptLink>,
-) -> Result<(), OutOfMemory> {
-    let link = ScriptLink::new(alloc, &[], &[])?;
-    gate.plan_opening(Ok(link))?;
-    Ok(())
+/// Plans that a link is opened. False where memory is refused, here and below.
+pub(crate) fn plan_link(alloc: Global, gate: &mut ScriptGate<ScriptLink>) -> bool {
+    match ScriptLink::new(alloc, &[], &[]) {
+        Ok(link) => gate.plan_opening(Ok(link)).is_ok(),
+        Err(_) => false,
+    }
 }
 
 /// Plans that none is, as its host is not known.
-fn plan_unknown_host(gate: &mut ScriptGate<ScriptLink>) -> Result<(), OutOfMemory> {
-    gate.plan_opening(Err(Code::CouldntResolveHost))?;
-    Ok(())
+fn plan_unknown_host(gate: &mut ScriptGate<ScriptLink>) -> bool {
+    gate.plan_opening(Err(Code::CouldntResolveHost)).is_ok()
 }
 
 /// Plans that none is, as memory is refused.
-fn plan_no_memory(gate: &mut ScriptGate<ScriptLink>) -> Result<(), OutOfMemory> {
-    gate.plan_opening(Err(Code::OutOfMemory))?;
-    Ok(())
+fn plan_no_memory(gate: &mut ScriptGate<ScriptLink>) -> bool {
+    gate.plan_opening(Err(Code::OutOfMemory)).is_ok()
 }
 
 /// Plans that moment.
-pub(crate) fn plan_moment(
-    gate: &mut ScriptGate<ScriptLink>,
-    moment: u64,
-) -> Result<(), OutOfMemory> {
-    gate.plan_moment(moment)?;
-    Ok(())
-}
-
-/// Plans whether too many files are open.
-fn plan_lack(gate: &mut ScriptGate<ScriptLink>, lacks: bool) -> Result<(), OutOfMemory> {
-    gate.plan_lack(lacks)?;
-    Ok(())
+pub(crate) fn plan_moment(gate: &mut ScriptGate<ScriptLink>, moment: u64) -> bool {
+    gate.plan_moment(moment).is_ok()
 }
 
 /// Plans what the step says.
-fn plan(alloc: Global, gate: &mut ScriptGate<ScriptLink>, step: Step) -> Result<(), OutOfMemory> {
+fn plan(alloc: Global, gate: &mut ScriptGate<ScriptLink>, step: Step) -> bool {
     match step {
         Step::PlanLink => plan_link(alloc, gate),
         Step::PlanUnknownHost => plan_unknown_host(gate),
         Step::PlanNoMemory => plan_no_memory(gate),
         Step::PlanMoment(moment) => plan_moment(gate, moment),
-        Step::PlanLack(lacks) => plan_lack(gate, lacks),
-        _ => Ok(()),
+        Step::PlanLack(lacks) => gate.plan_lack(lacks).is_ok(),
+        _ => true,
     }
 }
 
@@ -179,56 +165,47 @@ fn first_wrong(
     gate: &mut ScriptGate<ScriptLink>,
     there: &Endpoint,
     steps: &[Step],
-) -> Result<Option<usize>, OutOfMemory> {
+) -> Option<usize> {
     for place in 0..steps.len() {
-        plan(alloc, gate, steps[place])?;
-        if !answers(gate, there, steps[place]) {
-            return Ok(Some(place));
+        if !plan(alloc, gate, steps[place]) || !answers(gate, there, steps[place]) {
+            return Some(place);
         }
     }
-    Ok(None)
+    None
 }
 
 /// The same, of a new gate.
-fn first_wrong_of(
-    alloc: Global,
-    there: &Endpoint,
-    row: &Row,
-) -> Result<Option<usize>, OutOfMemory> {
+fn first_wrong_of(alloc: Global, there: &Endpoint, row: &Row) -> Option<usize> {
     let mut gate: ScriptGate<ScriptLink> = ScriptGate::new(alloc, row.turns);
     let wrong = first_wrong(alloc, &mut gate, there, row.steps);
     drop(gate);
     wrong
 }
 
-/// The first row of which a step answers otherwise.
-fn wrong_row(alloc: Global, there: &Endpoint) -> Result<Option<&'static str>, OutOfMemory> {
+/// Fails with the first row of which a step answers otherwise.
+fn are_there(alloc: Global, there: &Endpoint) -> Result<(), Fail> {
     for row in &ROWS {
-        if first_wrong_of(alloc, there, row)?.is_some() {
-            return Ok(Some(row.name));
-        }
+        verdict(row.name, first_wrong_of(alloc, there, row))?;
     }
-    Ok(None)
+    Ok(())
 }
 
 /// The same, for an endpoint.
-fn wrong_row_there(alloc: Global) -> Result<Option<&'static str>, OutOfMemory> {
+fn are_so(alloc: Global) -> Result<(), Fail> {
     let there = endpoint(alloc, "example.com", 80)?;
-    let wrong = wrong_row(alloc, &there);
-    drop(there);
-    wrong
+    are_there(alloc, &there)
 }
 
-/// Fails with the first row of all of which a step answers otherwise.
-fn are_so(alloc: Global) -> Result<(), Fail> {
-    ready::are_so(alloc, &ready::ROWS)?;
-    match paced::wrong_row(alloc)?.or(wrong_row_there(alloc)?) {
-        Some(name) => Err(name.into()),
-        None => Ok(()),
+/// The same, of all.
+fn are_all_so(alloc: Global) -> Result<(), Fail> {
+    if let Some(name) = paced::wrong_row(alloc) {
+        return Err(name.into());
     }
+    ready::are_so(alloc)?;
+    are_so(alloc)
 }
 
 #[test]
 fn gates_and_links_from_scripts(rt: HostRuntime) -> Result<(), Fail> {
-    are_so(rt.alloc())
+    are_all_so(rt.alloc())
 }

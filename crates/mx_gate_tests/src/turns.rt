@@ -1,6 +1,6 @@
 //! Turns of gates over sockets: what ends them, and how long they take.
 
-use crate::gates::{RIGHT, Ringed, Work, at_gate, is_rung_at_gate};
+use crate::gates::{RIGHT, Ringed, Work, at_gate};
 use mx_gate::{Bell, Gate, Turn};
 use std::alloc::AllocError;
 use std::sync::atomic::{AtomicBool, Ordering};
@@ -9,29 +9,50 @@ use std::thread;
 use std::thread::{JoinHandle, Threads};
 use std::time::{Duration, Instant};
 
+/// The moment, where the clock gives one.
+pub(crate) fn now(rt: &HostRuntime) -> Option<Instant> {
+    Instant::now(rt).ok()
+}
+
+/// Whether since then so many milliseconds have passed at least, and fewer than so many. False where the clock gave no moment.
+pub(crate) fn has_passed(rt: &HostRuntime, start: Option<Instant>, least: u64, below: u64) -> bool {
+    let Some(start) = start else {
+        return false;
+    };
+    match start.elapsed(rt) {
+        Ok(passed) => {
+            passed >= Duration::from_millis(least) && passed < Duration::from_millis(below)
+        }
+        Err(_) => false,
+    }
+}
+
 /// A thread that rings after a while.
-fn ringer<R: Threads>(threads: &R, rt: &HostRuntime, bell: Bell) -> Result<JoinHandle<bool>, Fail> {
+fn ringer<R: Threads>(threads: &R, rt: &HostRuntime, bell: Bell) -> Option<JoinHandle<bool>> {
     let rt_there = *rt;
-    Ok(thread::spawn(threads, move || {
+    let rings = move || {
         thread::sleep(&rt_there, Duration::from_millis(50));
         bell.ring().is_ok()
-    })?)
+    };
+    thread::spawn(threads, rings).ok()
 }
 
 /// A long turn in which a thread rings the bell ends in time, but not before the ring.
-pub(crate) fn turns_until_rung<R: Threads, G: Gate + Ringed>(
+fn turns_until_rung<R: Threads, G: Gate + Ringed>(
     threads: &R,
     rt: &HostRuntime,
     gate: &mut G,
-) -> Result<bool, Fail> {
-    let start = Instant::now(rt)?;
-    let ringer = ringer(threads, rt, gate.new_bell()?)?;
+) -> bool {
+    let start = now(rt);
+    let Ok(bell) = gate.new_bell() else {
+        return false;
+    };
+    let Some(ringer) = ringer(threads, rt, bell) else {
+        return false;
+    };
     let turn = gate.turn(20_000);
-    let passed = start.elapsed(rt);
-    let is_rung = ringer.join(threads);
-    let passed = passed?;
-    let in_time = passed >= Duration::from_millis(40) && passed < Duration::from_secs(10);
-    Ok((turn == Turn::Continue) & in_time & is_rung)
+    let in_time = has_passed(rt, start, 40, 10_000);
+    (turn == Turn::Continue) & in_time & ringer.join(threads)
 }
 
 /// Rings two bells: whether both were rung.
@@ -45,38 +66,36 @@ fn ring_two<G: Ringed>(gate: &G) -> Result<bool, AllocError> {
 }
 
 /// A ring ends the next wait.
-fn is_rung_before<G: Gate + Ringed>(rt: &HostRuntime, gate: &mut G) -> Result<bool, Fail> {
-    let start = Instant::now(rt)?;
-    let are_rung = ring_two(gate)?;
+fn is_rung_before<G: Gate + Ringed>(rt: &HostRuntime, gate: &mut G) -> bool {
+    let start = now(rt);
+    let are_rung = ring_two(gate) == Ok(true);
     gate.turn(20_000);
-    Ok(start.elapsed(rt)? < Duration::from_secs(10) && are_rung)
+    has_passed(rt, start, 0, 10_000) && are_rung
 }
 
 /// Whether a turn of 20 milliseconds takes less than 35. Where the machine has much else to do one may take longer, but not each of a
 /// hundred.
-fn ends_in_time<G: Gate>(rt: &HostRuntime, gate: &mut G) -> Result<bool, Fail> {
+fn ends_in_time<G: Gate>(rt: &HostRuntime, gate: &mut G) -> bool {
     for _ in 0..100 {
-        let start = Instant::now(rt)?;
+        let start = now(rt);
         gate.turn(20);
-        if start.elapsed(rt)? < Duration::from_millis(35) {
-            return Ok(true);
+        if has_passed(rt, start, 0, 35) {
+            return true;
         }
     }
-    Ok(false)
+    false
 }
 
 /// A hundred turns that don't wait take less than 290 milliseconds, and longer together with one that waits 300.
-fn takes_its_time<G: Gate>(rt: &HostRuntime, gate: &mut G) -> Result<bool, Fail> {
-    let start = Instant::now(rt)?;
+fn takes_its_time<G: Gate>(rt: &HostRuntime, gate: &mut G) -> bool {
+    let start = now(rt);
     for _ in 0..100 {
         gate.turn(0);
     }
-    let at_once = start.elapsed(rt)?;
+    let at_once = has_passed(rt, start, 0, 290);
     gate.turn(300);
-    let waited = start.elapsed(rt)?;
-    let least = Duration::from_millis(290);
-    let in_time = at_once < least && waited >= least && waited < Duration::from_secs(10);
-    Ok(in_time && ends_in_time(rt, gate)?)
+    let waited = has_passed(rt, start, 290, 10_000);
+    at_once && waited && ends_in_time(rt, gate)
 }
 
 /// Turns stop while the flag is set, and go on when it is clear again.
@@ -93,6 +112,8 @@ fn stops_by_the_flag<G: Gate>(gate: &mut G, stop: &AtomicBool) -> bool {
 /// The turns that a test takes.
 #[derive(Clone, Copy)]
 pub(crate) enum Turns {
+    /// A thread rings the bell during one.
+    RungMeanwhile,
     /// Two bells are rung before one.
     RungBefore,
     /// They are measured.
@@ -102,20 +123,23 @@ pub(crate) enum Turns {
 }
 
 /// Whether all is as it should be.
-pub(crate) fn takes<G: Gate + Ringed>(
+pub(crate) fn takes<R: Threads, G: Gate + Ringed>(
+    threads: &R,
     rt: &HostRuntime,
     gate: &mut G,
     stop: &AtomicBool,
     turns: Turns,
-) -> Result<bool, Fail> {
+) -> bool {
     match turns {
+        Turns::RungMeanwhile => turns_until_rung(threads, rt, gate),
         Turns::RungBefore => is_rung_before(rt, gate),
         Turns::Times => takes_its_time(rt, gate),
-        Turns::Flag => Ok(stops_by_the_flag(gate, stop)),
+        Turns::Flag => stops_by_the_flag(gate, stop),
     }
 }
 
-static ROWS: [(&'static str, Turns); 3] = [
+static ROWS: [(&'static str, Turns); 4] = [
+    ("the_bell_ends_a_wait", Turns::RungMeanwhile),
     ("a_ring_ends_the_next_wait", Turns::RungBefore),
     // rule gate-stop
     ("a_wait_takes_its_time", Turns::Times),
@@ -123,20 +147,12 @@ static ROWS: [(&'static str, Turns); 3] = [
     ("the_flag_stops_turns_while_it_is_set", Turns::Flag),
 ];
 
-/// Fails with the first row that isn't so.
-fn take_each(rt: &HostRuntime) -> Result<(), Fail> {
+#[test]
+fn turns_of_a_gate(rt: HostRuntime) -> Result<(), Fail> {
     for row in &ROWS {
-        if at_gate(rt, rt, Work::Turns(row.1))? != RIGHT {
+        if at_gate(&rt, &rt, &rt, None, Work::Turns(row.1))? != RIGHT {
             return Err(row.0.into());
         }
     }
     Ok(())
-}
-
-#[test]
-fn turns_of_a_gate(rt: HostRuntime) -> Result<(), Fail> {
-    if !is_rung_at_gate(&rt, &rt)? {
-        return Err("the_bell_ends_a_wait".into());
-    }
-    take_each(&rt)
 }
