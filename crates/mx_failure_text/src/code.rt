@@ -16,6 +16,7 @@ pub fn code_words(code: Code) -> &'static str
         Code::CouldntConnect => "the connection was refused, or could not be made",
         Code::WeirdServerReply => "not an HTTP response",
         Code::PartialFile => "the response ended within its body",
+        Code::WriteError => "the content could not be written",
         Code::OutOfMemory => OUT_OF_MEMORY,
         Code::OperationTimedout => "timed out",
         Code::TooManyRedirects => "too many redirects",

@@ -16,6 +16,7 @@ ok_is code.CouldntResolveHost e = cc
 ok_is code.CouldntConnect e = cc
 ok_is code.WeirdServerReply e = cc
 ok_is code.PartialFile e = cc
+ok_is code.WriteError e = cc
 ok_is code.OutOfMemory e = cc
 ok_is code.OperationTimedout e = cc
 ok_is code.TooManyRedirects e = cc

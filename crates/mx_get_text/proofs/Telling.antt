@@ -41,6 +41,7 @@ code_small code.CouldntResolveHost = omega arith
 code_small code.CouldntConnect = omega arith
 code_small code.WeirdServerReply = omega arith
 code_small code.PartialFile = omega arith
+code_small code.WriteError = omega arith
 code_small code.OutOfMemory = omega arith
 code_small code.OperationTimedout = omega arith
 code_small code.TooManyRedirects = omega arith

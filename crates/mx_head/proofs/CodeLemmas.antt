@@ -16,6 +16,7 @@ numbered n =
     else (if n == 7 then codes.CouldntConnect
     else (if n == 8 then codes.WeirdServerReply
     else (if n == 18 then codes.PartialFile
+    else (if n == 23 then codes.WriteError
     else (if n == 27 then codes.OutOfMemory
     else (if n == 28 then codes.OperationTimedout
     else (if n == 47 then codes.TooManyRedirects
@@ -24,7 +25,7 @@ numbered n =
     else (if n == 56 then codes.RecvError
     else (if n == 61 then codes.BadContentEncoding
     else (if n == 63 then codes.FilesizeExceeded
-    else codes.TooLarge))))))))))))))
+    else codes.TooLarge)))))))))))))))
 
 numbered-code_number : (c : Code) → numbered (code_number c) ≡ c
 numbered-code_number codes.Ok = refl
@@ -34,6 +35,7 @@ numbered-code_number codes.CouldntResolveHost = refl
 numbered-code_number codes.CouldntConnect = refl
 numbered-code_number codes.WeirdServerReply = refl
 numbered-code_number codes.PartialFile = refl
+numbered-code_number codes.WriteError = refl
 numbered-code_number codes.OutOfMemory = refl
 numbered-code_number codes.OperationTimedout = refl
 numbered-code_number codes.TooManyRedirects = refl

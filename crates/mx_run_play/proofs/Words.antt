@@ -6,14 +6,14 @@ use Rattle.std.specs.Str.{IsUtf8, IsAscii}
 use Rattle.std.specs.Cmp.Lexicographic.{pointwise, bytes_decides}
 use Rattle.std.proofs.lemmas.Str.{IsUtf8-from_ascii}
 use Rattle.std.proofs.lemmas.Str.Ascii.{IsAscii-nil, IsAscii-cons}
-use Rattle.std.proofs.lemmas.Bool.{false≢true, eqb-true, ltb-true, false_from_ne_true}
+use Rattle.std.proofs.lemmas.Bool.{false≢true, eqb-true, ltb-true, false_from_ne_true, and_parts}
 use Rattle.std.proofs.lemmas.Bool.Decides.{nat_tests}
 use Rattle.mx_types.specs.Code.{code_number}
 use Rattle.mx_types.specs.declared.code.Code.{Code}
 use Rattle.mx_types.specs.declared.code.Code.TheVariants as code
 use Rattle.mx_run_play.specs.declared.script.Name.{Name}
 use Rattle.mx_run_play.specs.declared.script.Name.TheVariants as name
-use Rattle.mx_run_play.specs.Script.{pieces, onto_first, IsNameOf, IsCodeOf, named, coded, name_text, names, all_codes, number_of, is_numeral, value_of, is_silent, line_of, retire_or_bad, call_or, call_of, call_with, words_of}
+use Rattle.mx_run_play.specs.Script.{pieces, onto_first, IsNameOf, IsCodeOf, named, coded, name_text, names, all_codes, is_scripted, number_of, is_numeral, value_of, is_silent, line_of, retire_or_bad, call_or, call_of, call_with, words_of}
 use Rattle.mx_types.specs.declared.call.Call.{Call}
 use Rattle.mx_run_play.specs.declared.script.Line.TheVariants as line
 
@@ -72,32 +72,34 @@ named_is word None is = nameless word is
 pub not_named : (word : List ℕ) → (IsUtf8 word → ⊥) → None ≡ named word
 not_named word nots = nameless word (λ n e. nots (subst IsUtf8 (sym e) (utf8_name n)))
 
-coded_number : (c : Code) → Some c ≡ coded (code_number c)
+coded_number : (c : Code) → is_scripted c ≡ true → Some c ≡ coded (code_number c)
 unfolding coded
-coded_number code.Ok = refl
-coded_number code.UnsupportedProtocol = refl
-coded_number code.UrlMalformat = refl
-coded_number code.CouldntResolveHost = refl
-coded_number code.CouldntConnect = refl
-coded_number code.WeirdServerReply = refl
-coded_number code.PartialFile = refl
-coded_number code.OutOfMemory = refl
-coded_number code.OperationTimedout = refl
-coded_number code.TooManyRedirects = refl
-coded_number code.GotNothing = refl
-coded_number code.SendError = refl
-coded_number code.RecvError = refl
-coded_number code.BadContentEncoding = refl
-coded_number code.FilesizeExceeded = refl
-coded_number code.TooLarge = refl
+coded_number code.Ok is = refl
+coded_number code.UnsupportedProtocol is = refl
+coded_number code.UrlMalformat is = refl
+coded_number code.CouldntResolveHost is = refl
+coded_number code.CouldntConnect is = refl
+coded_number code.WeirdServerReply is = refl
+coded_number code.PartialFile is = refl
+coded_number code.WriteError is = let x : false ≡ true = is in cc
+coded_number code.OutOfMemory is = refl
+coded_number code.OperationTimedout is = refl
+coded_number code.TooManyRedirects is = refl
+coded_number code.GotNothing is = refl
+coded_number code.SendError is = refl
+coded_number code.RecvError is = refl
+coded_number code.BadContentEncoding is = refl
+coded_number code.FilesizeExceeded is = refl
+coded_number code.TooLarge is = refl
 
 codeless : (number : ℕ) → IsCodeOf number None → None ≡ coded number
 unfolding coded
 codeless number nots =
-    sym (find_none (λ c. code_number c == number) (λ c. false_from_ne_true _ (λ e. nots c (sym (eqb-true _ _ e)))) all_codes)
+    sym (find_none (λ c. is_scripted c && (code_number c == number))
+    (λ c. false_from_ne_true _ (λ e. let both = and_parts _ _ e in nots c both.0 (sym (eqb-true _ _ both.1)))) all_codes)
 
 pub coded_is : (number : ℕ) (o : Option Code) → IsCodeOf number o → o ≡ coded number
-coded_is number (Some c) is = coded_number c ∙ ap coded (sym is)
+coded_is number (Some c) is = coded_number c is.0 ∙ ap coded (sym is.1)
 coded_is number None is = codeless number is
 
 -- a text is cut at the first byte c

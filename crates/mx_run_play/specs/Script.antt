@@ -1,5 +1,5 @@
 -- The lines of a script for `mxfetch play`, and what they are.
-use Rattle.std.specs.Prelude.{◌≡◌, ◌≢◌, ℕ, ◌+◌, ◌*◌, ◌-◌, ◌==◌, ◌&&◌, nat_eq, nat_lt, nat_le, Bool, true, if◌then◌else◌, List, [], ◌∷◌, length, fold, codes, Option, Some, None, option_and_then}
+use Rattle.std.specs.Prelude.{◌≡◌, ◌≢◌, ℕ, ◌+◌, ◌*◌, ◌-◌, ◌==◌, ◌&&◌, nat_eq, nat_lt, nat_le, Bool, true, false, if◌then◌else◌, List, [], ◌∷◌, length, fold, codes, Option, Some, None, option_and_then}
 use Rattle.std.specs.List.{find, list_all}
 use Rattle.std.specs.Char.{is_ascii_digit}
 use Rattle.std.specs.Cmp.Lexicographic.{pointwise}
@@ -70,17 +70,22 @@ is_numeral word = nat_lt 0 (length word) && nat_le (length word) 10 && list_all 
 unfoldable pub number_of : List ℕ → Option ℕ
 number_of word = (if is_numeral word && nat_le (value_of word) 4294967295 then Some (value_of word) else None)
 
+-- the codes that a script may finish a transfer with: all but that of content that couldn't be written, since a script's transfers have none
+abbrev pub is_scripted : Code → Bool
+is_scripted code.WriteError = false
+is_scripted _ = true
+
 -- the code of a number
 abbrev pub all_codes : List Code
 all_codes =
     code.Ok ∷ code.UnsupportedProtocol ∷ code.UrlMalformat ∷ code.CouldntResolveHost ∷ code.CouldntConnect ∷ code.WeirdServerReply ∷ code.PartialFile ∷ code.OutOfMemory ∷ code.OperationTimedout ∷ code.TooManyRedirects ∷ code.GotNothing ∷ code.SendError ∷ code.RecvError ∷ code.BadContentEncoding ∷ code.FilesizeExceeded ∷ code.TooLarge ∷ []
 
 unfoldable pub coded : ℕ → Option Code
-coded number = find (λ c. code_number c == number) all_codes
+coded number = find (λ c. is_scripted c && (code_number c == number)) all_codes
 
 abbrev pub IsCodeOf : ℕ → Option Code → Type 0
-IsCodeOf number (Some c) = number ≡ code_number c
-IsCodeOf number None = (c : Code) → number ≢ code_number c
+IsCodeOf number (Some c) = (is_scripted c ≡ true) × (number ≡ code_number c)
+IsCodeOf number None = (c : Code) → is_scripted c ≡ true → number ≢ code_number c
 
 -- the call of a name alone, with a handle, and with a ticket, a code and a length
 abbrev pub plain_call : Name → Option Call

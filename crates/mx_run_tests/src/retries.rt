@@ -15,11 +15,12 @@ static TRANSIENT: [Code; 7] = [
     Code::RecvError,
 ];
 
-static LASTING: [Code; 9] = [
+static LASTING: [Code; 10] = [
     Code::Ok,
     Code::UnsupportedProtocol,
     Code::UrlMalformat,
     Code::WeirdServerReply,
+    Code::WriteError,
     Code::OutOfMemory,
     Code::TooManyRedirects,
     Code::BadContentEncoding,

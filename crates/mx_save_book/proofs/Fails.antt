@@ -19,6 +19,7 @@ ok_or_not codes.CouldntResolveHost = inr ((λ e. let bad : codes.CouldntResolveH
 ok_or_not codes.CouldntConnect = inr ((λ e. let bad : codes.CouldntConnect ≡ codes.Ok = e in cc), λ e. omega (arith, e))
 ok_or_not codes.WeirdServerReply = inr ((λ e. let bad : codes.WeirdServerReply ≡ codes.Ok = e in cc), λ e. omega (arith, e))
 ok_or_not codes.PartialFile = inr ((λ e. let bad : codes.PartialFile ≡ codes.Ok = e in cc), λ e. omega (arith, e))
+ok_or_not codes.WriteError = inr ((λ e. let bad : codes.WriteError ≡ codes.Ok = e in cc), λ e. omega (arith, e))
 ok_or_not codes.OutOfMemory = inr ((λ e. let bad : codes.OutOfMemory ≡ codes.Ok = e in cc), λ e. omega (arith, e))
 ok_or_not codes.OperationTimedout = inr ((λ e. let bad : codes.OperationTimedout ≡ codes.Ok = e in cc), λ e. omega (arith, e))
 ok_or_not codes.TooManyRedirects = inr ((λ e. let bad : codes.TooManyRedirects ≡ codes.Ok = e in cc), λ e. omega (arith, e))

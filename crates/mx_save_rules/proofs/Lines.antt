@@ -23,6 +23,7 @@ code_fits codes_of.CouldntResolveHost = omega arith
 code_fits codes_of.CouldntConnect = omega arith
 code_fits codes_of.WeirdServerReply = omega arith
 code_fits codes_of.PartialFile = omega arith
+code_fits codes_of.WriteError = omega arith
 code_fits codes_of.OutOfMemory = omega arith
 code_fits codes_of.OperationTimedout = omega arith
 code_fits codes_of.TooManyRedirects = omega arith

@@ -1,5 +1,7 @@
 -- What a sink takes, and why it takes nothing.
 use Rattle.std.specs.Prelude.{ℕ, List, [], take, codes, Result, Ok, Err}
+use Rattle.mx_types.specs.declared.code.Code.{Code}
+use Rattle.mx_types.specs.declared.code.Code.TheVariants as code
 use Rattle.mx_sink.specs.declared.error.SinkError.{SinkError}
 use Rattle.mx_sink.specs.declared.error.SinkError.TheVariants as error
 
@@ -14,9 +16,9 @@ pub record MemorySinkValue : Type 0 where
   pub most : ℕ
 
 -- the codes (libcurl-errors(3))
-abbrev pub sink_number : SinkError → ℕ
-sink_number error.WriteError = 23
-sink_number error.OutOfMemory = 27
+abbrev pub sink_code : SinkError → Code
+sink_code error.WriteError = code.WriteError
+sink_code error.OutOfMemory = code.OutOfMemory
 
 abbrev pub sink_words : SinkError → List ℕ
 sink_words error.WriteError = codes "the content could not be written"

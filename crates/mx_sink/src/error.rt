@@ -1,8 +1,8 @@
 //! Why a sink takes no bytes.
 ghost use Rattle.std.specs.Prelude.{◌≡◌};
-ghost use Rattle.mx_sink.specs.Sinks.{sink_number, sink_words};
+ghost use Rattle.mx_sink.specs.Sinks.{sink_code, sink_words};
 
-use mx_types::OUT_OF_MEMORY;
+use mx_types::{Code, OUT_OF_MEMORY};
 use std::error::Error;
 use std::fmt;
 
@@ -16,13 +16,13 @@ pub enum SinkError {
 }
 
 impl SinkError {
-    /// The code's number, which is libcurl's.
-    pub fn number(self) -> u32
-        ensures { result ≡ sink_number self }
+    /// The code that the transfer ends with.
+    pub fn code(self) -> Code
+        ensures { result ≡ sink_code self }
     {
         match self {
-            SinkError::WriteError => 23,
-            SinkError::OutOfMemory => 27,
+            SinkError::WriteError => Code::WriteError,
+            SinkError::OutOfMemory => Code::OutOfMemory,
         }
     }
 

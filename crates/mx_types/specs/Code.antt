@@ -12,6 +12,7 @@ code_number codes.CouldntResolveHost = 6
 code_number codes.CouldntConnect = 7
 code_number codes.WeirdServerReply = 8
 code_number codes.PartialFile = 18
+code_number codes.WriteError = 23
 code_number codes.OutOfMemory = 27
 code_number codes.OperationTimedout = 28
 code_number codes.TooManyRedirects = 47

@@ -20,6 +20,8 @@ pub enum Code {
     WeirdServerReply,
     /// 18: the input ended in a body whose end is known.
     PartialFile,
+    /// 23: where the content goes it couldn't be written.
+    WriteError,
     /// 27: a growth was refused.
     OutOfMemory,
     /// 28: the deadline isn't after the moment handed in.
@@ -53,6 +55,7 @@ impl Code {
             Code::CouldntConnect => 7,
             Code::WeirdServerReply => 8,
             Code::PartialFile => 18,
+            Code::WriteError => 23,
             Code::OutOfMemory => 27,
             Code::OperationTimedout => 28,
             Code::TooManyRedirects => 47,
