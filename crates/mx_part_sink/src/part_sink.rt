@@ -180,7 +180,10 @@ impl<P: PartFile> Sink for PartSink<P> {
 
     ghost target = { λ s. s.name };
 
-    fn has_room(&self) -> bool {
+    fn has_room(&mut self) -> bool
+        ensures room { result ≡ true }
+        ensures same { self.new ≡ self.old }
+    {
         true
     }
 

@@ -1,2 +1,3 @@
--- What contracts cite: what a sink takes, and the codes of its errors.
+-- What contracts cite: what a sink takes, the codes of its errors, and what is known of an outlet.
+pub mod Outlets
 pub mod Sinks

@@ -60,7 +60,10 @@ impl Sink for MemorySink {
 
     ghost target = { λ s. [] };
 
-    fn has_room(&self) -> bool {
+    fn has_room(&mut self) -> bool
+        ensures room { result ≡ nat_lt (length self.new.got) self.new.most }
+        ensures same { self.new ≡ self.old }
+    {
         self.bytes.len() < self.most
     }
 

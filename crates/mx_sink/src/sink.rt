@@ -4,7 +4,8 @@ ghost use Rattle.mx_sink.specs.Sinks.{taken};
 
 use crate::error::SinkError;
 
-/// Where the content of one body goes as it comes: a file, memory, another thread.
+/// Where the content of one body goes as it comes: a file, memory, another thread. Where its room depends on the outside, `room` is what the
+/// sink last saw.
 pub trait Sink: Drop {
     /// The bytes that it took so far, in order.
     ghost got: { Self → List ℕ };
@@ -15,9 +16,11 @@ pub trait Sink: Drop {
     /// What it was made for, which no call changes: of a file, its name.
     ghost target: { Self → List ℕ };
 
-    /// Whether it takes bytes now, so that a transfer whose sink takes none can be paused.
-    fn has_room(&self) -> bool
-        ensures { result ≡ room self.now };
+    /// Whether it takes bytes now, so that a transfer whose sink takes none can be paused. It may look outside: whether a pipe takes
+    /// bytes, say.
+    fn has_room(&mut self) -> bool
+        ensures room { result ≡ room self.new }
+        ensures same { (got self.new ≡ got self.old) × (target self.new ≡ target self.old) };
 
     /// Takes a prefix of `bytes`, which isn't empty. The answer is how many: at least one where it has room. An error takes none.
     fn put(&mut self, bytes: &[u8]) -> Result<usize, SinkError>
