@@ -1,15 +1,21 @@
-//! Tests of the names of files, of sinks, of saving over a folder in memory and over one of the system, and of `save` over loopback. There is
-//! nothing in this crate but tests.
+//! Tests of the names of files, of sinks, of saving over a folder in memory and over one of the system, and of `save` and `get` over loopback,
+//! by servers of the tests' own. There is nothing in this crate but tests.
 #![tactic(auto)]
 
 #[cfg(test)]
 mod bodies;
+#[cfg(test)]
+mod counting_server;
+#[cfg(test)]
+mod gets;
 #[cfg(test)]
 mod memory;
 #[cfg(test)]
 mod memory_sinks;
 #[cfg(test)]
 mod names;
+#[cfg(test)]
+mod open_requests;
 #[cfg(test)]
 mod part_sinks;
 #[cfg(test)]
@@ -24,3 +30,5 @@ mod sink_bodies;
 mod sinks_without_memory;
 #[cfg(test)]
 mod system;
+#[cfg(test)]
+mod widths;

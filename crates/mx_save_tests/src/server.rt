@@ -10,8 +10,8 @@ use std::thread::{JoinHandle, Threads};
 /// The most bytes of a request that are read.
 const MOST: u32 = 1000;
 
-// The byte after `GET /` of the request on a connection; None where there is none.
-fn path_of(stream: &mut TcpStream) -> Option<u8> {
+/// The byte after `GET /` of the next request on a connection; None where there is none.
+pub fn next_request(stream: &mut TcpStream) -> Option<u8> {
     let mut path = b' ';
     let mut last = [0; 4];
     for at in 0..MOST {
@@ -47,7 +47,7 @@ fn serve(listener: &TcpListener, connections: u32) -> u32 {
         let Ok((mut stream, _)) = listener.accept() else {
             return served;
         };
-        if let Some(path) = path_of(&mut stream) {
+        if let Some(path) = next_request(&mut stream) {
             served = served.saturating_add(u32::from(answer(&mut stream, path)));
         }
     }

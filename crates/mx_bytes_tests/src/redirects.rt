@@ -1,6 +1,6 @@
 //! Requests that follow others: the bytes that they have to give by RFC 9110, sections 10.2.2 and 15.4, and which Locations are refused.
 
-use crate::row::{FROM, GET, Hop, Led, Row, Rows, Seen};
+use crate::request_row::{FROM, GET, Hop, Led, Row, Rows, Seen};
 use crate::settings::Given;
 use mx_request::{RequestError, is_redirect};
 use mx_types::Method;

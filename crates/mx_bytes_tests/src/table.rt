@@ -1,4 +1,4 @@
-//! All rows.
+//! All rows of bytes, and scripts of decoders.
 
 use crate::row::{Row, first_wrong};
 use crate::{chunked, heads, limits, locations, pieces, reasons};

@@ -1,7 +1,8 @@
 //! A server on a port of this machine, in a thread of its own, that counts its connections.
 
+use crate::server::next_request;
 use std::alloc::AllocGlobal;
-use std::io::{Read as _, Write as _};
+use std::io::Write as _;
 use std::net::{Net, SocketAddr, TcpListener, TcpStream};
 use std::sync::Arc;
 use std::sync::atomic::{AtomicBool, Ordering};
@@ -9,28 +10,8 @@ use std::test::Fail;
 use std::thread;
 use std::thread::{JoinHandle, Threads};
 
-/// The most connections that the server takes, and the most bytes of a request that it reads.
+/// The most connections that the server takes, and the most requests on one.
 const MOST: u32 = 1000;
-
-/// The byte after `GET /` of the next request on a connection; None where there is none.
-pub fn next_request(stream: &mut TcpStream) -> Option<u8> {
-    let mut path = b' ';
-    let mut last = [0; 4];
-    for at in 0..MOST {
-        let mut byte = [0; 1];
-        if stream.read_exact(&mut byte).is_err() {
-            return None;
-        }
-        if at == 5 {
-            path = byte[0];
-        }
-        last = [last[1], last[2], last[3], byte[0]];
-        if last == *b"\r\n\r\n" {
-            return Some(path);
-        }
-    }
-    None
-}
 
 // What is answered to a path that begins with this byte: a body, another body, a redirect to the first, one to itself, or a head that says
 // more than comes.

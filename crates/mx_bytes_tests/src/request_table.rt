@@ -1,6 +1,6 @@
-//! All rows and scripts.
+//! All rows of requests, and scripts of deadlines and idle links.
 
-use crate::row::{Rows, first_wrong};
+use crate::request_row::{Rows, first_wrong};
 use crate::{deadlines, fields, idle, redirects, refusals, urls};
 use std::alloc::Global;
 use std::test::Fail;

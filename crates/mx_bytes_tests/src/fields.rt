@@ -1,6 +1,6 @@
 //! Fields that are refused, and each character in a name and a value.
 
-use crate::row::{GET, Row, Rows, Seen};
+use crate::request_row::{GET, Row, Rows, Seen};
 use crate::settings::{Given, with_field};
 use mx_request::{Request, RequestError};
 use mx_types::{Method, Settings};

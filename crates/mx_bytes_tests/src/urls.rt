@@ -1,6 +1,6 @@
 //! URLs and settings, with the bytes that they have to give, and those that are refused.
 
-use crate::row::{GET, Row, Rows, Seen};
+use crate::request_row::{GET, Row, Rows, Seen};
 use crate::settings::Given;
 use mx_request::RequestError;
 use mx_types::Method;

@@ -1,5 +1,5 @@
 //! What `get` prints of some URLs, each row with a server of its own.
-use crate::server::CountingServer;
+use crate::counting_server::CountingServer;
 use mx_run_get::{Runtime, run_get, run_get_explained};
 use mx_run_io::{Options, Output};
 use std::alloc::Global;

@@ -1,17 +1,14 @@
-//! Calls that may be refused memory. One that was is made again, and has then to answer as if it had been the first; only then does the
-//! test fail, by a text of its own. What a test needs for itself is refused as any allocation is. Without a refusal it passes.
+//! Calls of requests, of endpoints and of idle links that may be refused memory, and are made again as those of `refused`.
 
 use crate::idle::{put, take};
-use crate::row::{GET, Row, Seen, is_right};
+use crate::refused::AGAIN;
+use crate::request_row::{GET, Row, Seen, is_right};
 use crate::settings::{Given, settings_of};
 use mx_request::{Endpoint, Request, RequestError};
 use mx_turn::IdleCache;
 use mx_types::{Method, OutOfMemory};
 use std::alloc::{AllocError, Global};
 use std::test::Fail;
-
-/// What a test ends with in which a call was refused memory.
-const AGAIN: &str = "memory was refused, and the call answered when it was made again";
 
 /// A POST with a user agent, a field, the body `hi` and a limit of time.
 const POST: Row = Row {

@@ -14,7 +14,7 @@ use std::alloc::{AllocError, Global};
 use std::test::Fail;
 
 /// What a test ends with in which a call was refused memory.
-const AGAIN: &str = "memory was refused, and the call answered when it was made again";
+pub(crate) const AGAIN: &str = "memory was refused, and the call answered when it was made again";
 
 // The end of a test, in which memory was refused at a call or not.
 fn end_with(is_refused: bool) -> Result<(), Fail> {
