@@ -1,5 +1,4 @@
-//! A caller of a multi handle with two seats, with no proof of its own: one adds, the other reads, and both are in one legal history.
-#![tactic(auto)]
+//! A caller with two seats: one adds, the other reads, and both are in one legal history.
 
 ghost use Rattle.std.specs.Prelude.{◌≡◌, IfSome, OnOk, length};
 ghost use Rattle.mx_types.specs.declared.call.Call.{Call};
@@ -27,7 +26,8 @@ fn read_of<Q: Work + Drop, R: Wait>(
     ensures of { reader.new.of ≡ reader.old.of }
     ensures message { IfSome result (λ m. IsNextMessage reader.old reader.new m.handle m.ticket m.outcome m.left) }
     ensures confirmed { IfSome result (λ _. reader.new.confirmed ≡ length reader.new.seen) }
-    ensures told { IfSome result (λ m. Has reader.new.ties (tie ticket (request_origin m.outcome.request))) }
+    ensures told { IfSome result (λ m. Has reader.new.ties (tie m.ticket (request_origin m.outcome.request))) }
+    ensures ticket { IfSome result (λ m. m.ticket ≡ ticket) }
 {
     let Ok(message) = next_message(rt, reader) else {
         return None;
@@ -59,7 +59,8 @@ fn agree<Q: Work + Drop>(
     message: &Message,
 )
     requires own { adder.now.of ≡ reader.now.of }
-    requires told { Has reader.now.ties (tie ticket (request_origin message.now.outcome.request)) }
+    requires told { Has reader.now.ties (tie message.now.ticket (request_origin message.now.outcome.request)) }
+    requires same { message.now.ticket ≡ ticket }
     ensures { (origin : Origin) → Has adder.now.ties (tie ticket origin) → request_origin message.now.outcome.request ≡ origin }
 {
     reader.are_told_alike(adder)

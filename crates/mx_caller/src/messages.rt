@@ -1,5 +1,4 @@
-//! A caller of a multi handle, with no proof of its own: it opens one, adds requests and reads their messages, and its seats meet.
-#![tactic(auto)]
+//! A caller that opens a multi handle, adds requests and reads their messages, and whose seats meet.
 
 ghost use Rattle.std.specs.Prelude.{◌≡◌, ◌<◌, true, length, IfOk, IfSome};
 ghost use Rattle.std.specs.List.{All};
