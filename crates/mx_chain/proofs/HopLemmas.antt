@@ -1,6 +1,6 @@
 -- Hops that lead one to the next, and how a chain of them ends.
 use Rattle.std.proofs.Common.{◌≡◌, ℕ, zero, suc, ◌≤◌, ◌<◌, Bool, true, false, List, [], ◌∷◌, ◌++◌, length, Some, None, Ok, Err, inl, inr, ◌⊎◌, refl, sym, ap, ◌∙◌, subst, ◌↔◌, arith}
-use Rattle.std.specs.Prelude.{is_some, if◌then◌else◌, ◌||◌, Option, option_map, slice_get}
+use Rattle.std.specs.Prelude.{is_some, if◌then◌else◌, ◌||◌, ◌&&◌, ◌==◌, not, Option, option_map, slice_get}
 use Rattle.std.proofs.Math.ListN.{get_or}
 use Rattle.std.proofs.lemmas.Bool.{and_parts}
 use Rattle.std.proofs.lemmas.List.Sums.{sum_by-append}
@@ -11,13 +11,19 @@ use Rattle.mx_request.specs.Request.{RequestValue, IsRequest}
 use Rattle.mx_request.specs.RequestError.{refusal_code}
 use Rattle.mx_request.specs.declared.error.RequestError.{RequestError}
 use Rattle.mx_request.specs.declared.error.RequestError.TheVariants as refusal
+use Rattle.httparse.specs.Grammar.{ResponseHead, print_response}
+use Rattle.mx_body.specs.Response.{print_heads, StandsAtBody}
+use Rattle.mx_body.specs.Decision.{HasFinalHead, HasHeads}
+use Rattle.mx_body.proofs.EmptyLemmas.{no_final}
+use Rattle.mx_body.proofs.HeadsLemmas.{same_body}
+use Rattle.mx_flow.proofs.StreamProofs.{heads_alone}
 use Rattle.mx_reader.specs.Readers.{IsKept}
 use Rattle.mx_exchange.specs.Hops as hop
 use Rattle.mx_exchange.specs.Exchanges.{HopValue}
-use Rattle.mx_chain.specs.Hops.{is_ok, is_redirect, next_of, LeadTo, EndsWith, stays, too_many, refused, memory}
+use Rattle.mx_chain.specs.Hops.{is_ok, is_redirect, sends_on, next_of, LeadTo, EndsWith, stays, too_many, refused, memory}
 use Rattle.mx_chain.specs.Chains.{bytes_in, counted}
 use Rattle.mx_chain.specs.Followed.{AreHeld}
-use Rattle.mx_chain.specs.Outcomes.{IsOutcome, first_of, outcome_of, is_outcome_code, is_unfollowed_code}
+use Rattle.mx_chain.specs.Outcomes.{IsChainEnd, IsOutcome, OutcomeValue, first_of, outcome_of, passed_on, is_outcome_code, is_unfollowed_code}
 
 -- one hop more
 pub leads_on : (most : ℕ) (first : RequestValue) (hops : List HopValue) (o : HopValue) (next : RequestValue) → LeadTo most first hops o.request
@@ -51,8 +57,9 @@ request_of most first (x ∷ hops) last l h = subst IsRequest l.0 l.2.request
 
 -- an outcome of these hops
 pub made : (heads_alone : Bool) (first : RequestValue) (hops : List HopValue) (last : HopValue) (c : Code) → LeadTo first.settings.max_redirects first hops last.request
-    → length hops ≤ first.settings.max_redirects → hop.IsHop last → last.limit ≡ None → EndsWith first.settings.max_redirects (length hops) last c → IsOutcome (outcome_of heads_alone hops last c)
-made heads_alone first hops last c l few h held e =
+    → length hops ≤ first.settings.max_redirects → hop.IsHop last → (heads_alone ≡ false → last.limit ≡ None) → EndsWith first.settings.max_redirects (length hops) last c
+    → IsChainEnd (outcome_of heads_alone hops last c)
+made heads_alone first hops last c l few h kept e =
     let same = sym (first_is first.settings.max_redirects first hops last l) in
     record {
       value = refl;
@@ -60,9 +67,13 @@ made heads_alone first hops last c l few h held e =
       leads = subst (λ (r : RequestValue). LeadTo r.settings.max_redirects r hops last.request) same l;
       few = subst (λ (r : RequestValue). length hops ≤ r.settings.max_redirects) same few;
       last = h;
-      held = held;
+      kept = kept;
       ends = subst (λ (r : RequestValue). EndsWith r.settings.max_redirects (length hops) last c) same e;
     }
+
+-- where its responses are held it is an outcome
+pub held_end : (o : OutcomeValue) → IsChainEnd o → o.last.limit ≡ None → IsOutcome o
+held_end o e held = record { value = e.value; request = e.request; leads = e.leads; few = e.few; last = e.last; held = held; ends = e.ends }
 
 -- a hop that sends its request on is a whole response with a location
 ok_is : (c : Code) → is_ok c ≡ true → c ≡ code.Ok
@@ -90,6 +101,23 @@ redirect_ok most o r = ok_is o.code (and_parts _ _ (and_parts _ _ (and_parts _ _
 pub redirect_located : (most : ℕ) (o : HopValue) → is_redirect most o ≡ true → is_some o.location ≡ true
 redirect_located most o r = (and_parts _ _ r).1
 
+-- its head does
+pub redirect_sends : (most : ℕ) (o : HopValue) → is_redirect most o ≡ true → sends_on most o ≡ true
+redirect_sends most o r =
+    let all : (not (most == 0) && is_ok o.code && is_redirect_status o.status ≡ true) × (is_some o.location ≡ true) = and_parts _ _ r in
+    let status : (not (most == 0) && is_ok o.code ≡ true) × (is_redirect_status o.status ≡ true) = and_parts _ _ all.0 in
+    let ok : (not (most == 0) ≡ true) × (is_ok o.code ≡ true) = and_parts _ _ status.0 in
+    ap (λ (b : Bool). b && (is_redirect_status o.status && is_some o.location)) ok.0 ∙ ap (λ (b : Bool). b && is_some o.location) status.1 ∙ all.1
+
+-- one that ends with 0 and isn't followed doesn't
+pub stays_sends : (most : ℕ) (o : HopValue) → is_redirect most o ≡ false → o.code ≡ code.Ok → sends_on most o ≡ false
+stays_sends most o r ok = by (not (most == 0)) (is_redirect_status o.status) (is_some o.location) (sym (ap (λ (c : Code). not (most == 0) && is_ok c && is_redirect_status o.status && is_some o.location) ok) ∙ r)
+  where
+    by : (a b c : Bool) → (a && true && b && c) ≡ false → (a && (b && c)) ≡ false
+    by true true c e = e
+    by true false c e = refl
+    by false b c e = refl
+
 pub redirect_status : (most : ℕ) (o : HopValue) → is_redirect most o ≡ true → is_redirect_status o.status ≡ true
 redirect_status most o r = (and_parts _ _ (and_parts _ _ r).0).1
 
@@ -115,6 +143,13 @@ ok_stays most followed o c (too_many r n) e = cc
 ok_stays most followed o c (refused f r n x) e = absurd (no_refusal_is_ok f e)
 ok_stays most followed o c (memory r n) e = cc
 
+-- and what it handed on is that hop's
+pub ok_handed : (most followed : ℕ) (o : HopValue) (c : Code) → EndsWith most followed o c → c ≡ code.Ok → passed_on most o ≡ o.content
+ok_handed most followed o c (stays r) e = ap (λ (b : Bool). if b then [] else o.content) (stays_sends most o r e)
+ok_handed most followed o c (too_many r n) e = cc
+ok_handed most followed o c (refused f r n x) e = absurd (no_refusal_is_ok f e)
+ok_handed most followed o c (memory r n) e = cc
+
 no_refusal_is_late : (r : RequestError) → refusal_code r ≡ code.OperationTimedout → ⊥
 no_refusal_is_late refusal.Scheme e = cc
 no_refusal_is_late refusal.Malformed e = cc
@@ -139,19 +174,19 @@ late_as most count o c Due (memory r n) d = (λ e. cc, λ due. absurd (timely (r
     timely : o.code ≡ code.Ok → o.code ≡ code.OperationTimedout → ⊥
     timely a b = let x : code.Ok ≡ code.OperationTimedout = sym a ∙ b in cc
 
-refusal_listed : (r : RequestError) → is_outcome_code (refusal_code r) ≡ true
-refusal_listed refusal.Scheme = refl
-refusal_listed refusal.Malformed = refl
-refusal_listed refusal.UserInfo = refl
-refusal_listed refusal.BadField = refl
-refusal_listed refusal.BodyTooLarge = refl
-refusal_listed refusal.OutOfMemory = refl
+refusal_listed : (r : RequestError) (limit : Option ℕ) → is_outcome_code (refusal_code r) limit ≡ true
+refusal_listed refusal.Scheme limit = refl
+refusal_listed refusal.Malformed limit = refl
+refusal_listed refusal.UserInfo limit = refl
+refusal_listed refusal.BadField limit = refl
+refusal_listed refusal.BodyTooLarge limit = refl
+refusal_listed refusal.OutOfMemory limit = refl
 
 -- the code of a chain is one of these, where its last hop's is one of a hop
-pub ends_listed : (most followed : ℕ) (o : HopValue) (c : Code) → EndsWith most followed o c → hop.is_hop_code o.code ≡ true → is_outcome_code c ≡ true
+pub ends_listed : (most followed : ℕ) (o : HopValue) (c : Code) → EndsWith most followed o c → hop.is_hop_code o.code o.limit ≡ true → is_outcome_code c o.limit ≡ true
 ends_listed most followed o c (stays r) h = ap (λ (b : Bool). b || is_unfollowed_code o.code) h
 ends_listed most followed o c (too_many r n) h = refl
-ends_listed most followed o c (refused f r n e) h = refusal_listed f
+ends_listed most followed o c (refused f r n e) h = refusal_listed f o.limit
 ends_listed most followed o c (memory r n) h = refl
 
 -- the bytes of one hop more are counted
@@ -177,3 +212,29 @@ pub held_read : (hops : List HopValue) (i : ℕ) (d : HopValue) → AreHeld hops
 held_read [] i d h less = absurd (omega (arith, less))
 held_read (x ∷ hops) zero d h less = h.0
 held_read (x ∷ hops) (suc i) d h less = held_read hops i d h.1 (omega (arith, less))
+
+-- the heads of what is kept are those of the response
+pub heads_kept : (limit : Option ℕ) (wire kept heads : List ℕ) → IsKept limit wire kept → HasHeads kept heads → HasHeads wire heads
+heads_kept None wire kept heads k h = subst (λ (l : List ℕ). HasHeads l heads) k h
+heads_kept (Some limit) wire kept heads (inl k) h =
+    let alone = heads_alone wire k.0 k.1 k.2 k.3 in
+    let stands : StandsAtBody kept k.0 k.1 [] = subst (λ (l : List ℕ). StandsAtBody l k.0 k.1 []) (sym k.4) alone.0 in
+    inl (
+      k.0,
+      k.1,
+      k.2,
+      k.3,
+      elim h [
+        | inl g ↦
+            let same = same_body kept k.0 g.0 k.1 g.1 [] g.2 stands g.3 in
+            g.4 ∙ ap (λ (l : List ResponseHead). print_heads l ++ print_response g.1) same.0 ∙ ap (λ (x : ResponseHead). print_heads k.0 ++ print_response x) same.1
+        | inr g ↦ absurd (g.0 (k.0, k.1, [], stands))
+      ],
+    )
+heads_kept (Some limit) wire kept heads (inr k) h = inr (
+  k.0,
+  elim h [
+    | inl g ↦ absurd (no_final (subst HasFinalHead k.1 (g.0, g.1, g.2, g.3)))
+    | inr g ↦ g.1
+  ],
+)

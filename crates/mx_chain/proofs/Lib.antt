@@ -1,4 +1,5 @@
 pub mod HopLemmas
+pub mod Passing
 pub mod StepLemmas
 pub mod Sends
 pub mod LawLemmas

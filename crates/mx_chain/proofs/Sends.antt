@@ -46,7 +46,7 @@ outcome_send =
     search (sendable) depth 40 fits 20000
 
 inside_field : (L : RattleType) (g : link.Ghosts L.Denot) → IsSend L → IsSend (Inside.the_field L g).row
-inside_field L g s = struct_send (shape (Inside.the_type L g)) (search (sendable, crosses) depth 40, (search (sendable, crosses) depth 40, (search (sendable, crosses) depth 40, (hops_send, (exchange_send L g s, (search (sendable, crosses) depth 40, (search (sendable, crosses) depth 40, (search (sendable, crosses) depth 40, (search (sendable, crosses) depth 40, (search (endpoint_send, sendable, crosses) depth 40, tt))))))))))
+inside_field L g s = struct_send (shape (Inside.the_type L g)) (search (sendable, crosses) depth 40, (search (sendable, crosses) depth 40, (search (sendable, crosses) depth 40, (hops_send, (exchange_send L g s, (search (sendable, crosses) depth 40, (search (sendable, crosses) depth 40, (search (sendable, crosses) depth 40, (search (sendable, crosses) depth 40, (search (sendable, crosses) depth 40, (search (endpoint_send, sendable, crosses) depth 40, tt)))))))))))
 
 pub chain_send : (L : RattleType) (g : link.Ghosts L.Denot) → IsSend L → IsSend (Chain.the_row L g)
 chain_send L g s =

@@ -5,17 +5,20 @@ use Rattle.mx_request.specs.Request.{RequestValue}
 use Rattle.mx_types.specs.declared.code.Code.{Code}
 use Rattle.mx_types.specs.declared.code.Code.TheVariants as code
 use Rattle.mx_link.specs.declared.answers.Answer.{Answer}
-use Rattle.mx_exchange.specs.Endings.{IsUndecided}
-use Rattle.mx_exchange.specs.Exchanges.{HopValue, ExchangeState, IsExchange, KeepsToken, capped, renewed}
+use Rattle.mx_line.specs.Endings.{IsUndecided}
+use Rattle.mx_exchange.specs.Exchanges.{HopValue, ExchangeState, IsExchange, KeepsToken, capped, clocked, renewed}
 use Rattle.mx_chain.specs.Hops.{LeadTo, EndsWith}
-use Rattle.mx_chain.specs.Outcomes.{OutcomeValue, hops_of, outcome_of}
-use Rattle.mx_chain.specs.Chains.{ChainState, IsChain, counted, bytes_in, received_of, released, left_of, over, onward}
-use Rattle.mx_chain.specs.Steps.{How, waits, how_of, IfEnded, IfGoing, SettlesHome, GoesOn, follows, finishes}
+use Rattle.mx_chain.specs.Outcomes.{OutcomeValue, hops_of, outcome_of, passed_on}
+use Rattle.mx_chain.specs.Chains.{ChainState, IsChain, counted, bytes_in, received_of, released, left_of, halted, over, onward}
+use Rattle.mx_exchange.specs.Turns as hop
+use Rattle.mx_exchange.specs.Turns.{Turns}
+use Rattle.mx_chain.specs.Steps.{How, waits, how_of, content_by, IfEnded, IfGoing, SettlesHome, GoesOn, follows, finishes, Steps, ended}
 use Rattle.mx_chain.specs.declared.chains.Stepped.{Stepped}
 use Rattle.mx_chain.specs.declared.chains.Stepped.TheVariants as stepped
 use Rattle.mx_chain.specs.Going.{IsFollowed, GoesOnTo}
 use Rattle.mx_exchange.specs.Hops.{IsHop}
-use Rattle.mx_chain.proofs.HopLemmas.{late_as, bytes_more, made, first_is}
+use Rattle.mx_chain.proofs.HopLemmas.{late_as, bytes_more, made, first_is, redirect_sends}
+use Rattle.mx_chain.proofs.Passing.{redirect_passes}
 
 module _ {L : Type 0} (t : ChainState L) (mid : ExchangeState L) (o : HopValue) (new : ChainState L) where
   not_waits : (how : How) → GoesOn t mid o new how → how ≡ waits → ⊥
@@ -94,6 +97,45 @@ module _ {L : Type 0} (t : ChainState L) (mid : ExchangeState L) (o : HopValue) 
   goes_undecided history asked token_of stepped.Asks g k h = h.undecided (k.going.0 (goes_again stepped.Asks g))
   goes_undecided history asked token_of (stepped.Ended x) g k h = tt
 
+-- ---- what a hop hands on, and its limit
+
+pub if_ended_limit : (s : Stepped) (a b : Option ℕ) → a ≡ b → IfEnded s (λ x. x.last.limit ≡ a) → IfEnded s (λ x. x.last.limit ≡ b)
+if_ended_limit s a b e h = subst (λ (l : Option ℕ). IfEnded s (λ x. x.last.limit ≡ l)) e h
+
+module _ {L : Type 0} (t : ChainState L) (mid : ExchangeState L) (o : HopValue) (new : ChainState L) where
+  released_limit : (b : Bool) (m n : ExchangeState L) → m.limit ≡ n.limit → (cond b m n).limit ≡ n.limit
+  released_limit true m n e = e
+  released_limit false m n e = refl
+
+  pub goes_limit : (how : How) → GoesOn t mid o new how → new.now.limit ≡ mid.limit
+  goes_limit how (follows next r few n e) = ap (λ (x : ChainState L). x.now.limit) e
+  goes_limit how (finishes c why e home) = ap (λ (x : ChainState L). x.now.limit) e ∙ released_limit mid.is_kept _ mid refl
+
+  pub goes_last : (s : Stepped) → GoesOn t mid o new (how_of s) → IfEnded s (λ x. x.last.limit ≡ o.limit)
+  goes_last stepped.Waits g = tt
+  goes_last stepped.Asks g = tt
+  goes_last (stepped.Ended x) (finishes c why e home) = refl
+
+  -- a hop that is followed hands nothing on, and the last one what its outcome has
+  pub goes_content : (s : Stepped) → LeadTo t.request.settings.max_redirects t.request t.hops o.request → GoesOn t mid o new (how_of s)
+      → content_by new (how_of s) ≡ passed_on t.request.settings.max_redirects o
+  goes_content stepped.Waits leads g = absurd (not_waits t mid o new waits g refl)
+  goes_content stepped.Asks leads (follows next r few n e) =
+      ap (λ (x : ChainState L). x.content) e ∙ sym (redirect_passes t.request.settings.max_redirects o (redirect_sends t.request.settings.max_redirects o r))
+  goes_content (stepped.Ended x) leads (finishes c why e home) =
+      ap (λ (r : RequestValue). passed_on r.settings.max_redirects o) (first_is t.request.settings.max_redirects t.request t.hops o leads)
+
+  -- it goes on from a hop that has ended
+  pub goes_halted : (s : ChainState L) (how : How) → s ≡ record t { now = mid; code = Some o.code; content = s.content } → s.content ≡ [] → GoesOn s mid o new how
+      → GoesOn (halted t mid o) mid o new how
+  goes_halted s how is none g =
+      subst (λ (x : ChainState L). GoesOn x mid o new how) (is ∙ ap (λ (l : List ℕ). record t { now = mid; code = Some o.code; content = l }) none) g
+
+-- so a turn ends that hop
+pub ended_by : {L : Type 0} (history : L → List Answer) (t new : ChainState L) (how : How) (o : HopValue) (mid : ExchangeState L) (s : ChainState L) → Turns history (clocked t.now) mid (hop.ends o)
+    → s ≡ record t { now = mid; code = Some o.code; content = s.content } → s.content ≡ [] → GoesOn s mid o new how → Steps history t new how
+ended_by history t new how o mid s turn is none g = ended o mid turn (goes_halted t mid o new s how is none g)
+
 -- ---- an exchange whose link was taken
 
 module _ {L : Type 0} (n : ExchangeState L) where
@@ -108,6 +150,9 @@ module _ {L : Type 0} (n : ExchangeState L) where
 
   pub received_released : (released n).received ≡ n.received
   received_released = elim (n.is_kept) as (λ b. (cond b (record n { link = None; attached = None; answers = []; is_reused = false; needs_probe = false; is_kept = false }) n).received ≡ n.received) [ true ↦ refl | false ↦ refl ]
+
+  pub released_content : (released n).content ≡ n.content
+  released_content = elim (n.is_kept) as (λ b. (cond b (record n { link = None; attached = None; answers = []; is_reused = false; needs_probe = false; is_kept = false }) n).content ≡ n.content) [ true ↦ refl | false ↦ refl ]
 
   left_same : (x : Option L) → n.is_kept ≡ false → left_of x n ≡ x
   left_same x e = rw e refl
@@ -154,7 +199,7 @@ module _ {L : Type 0} where
   -- a transfer whose link was set aside follows a hop
   pub follows_on : (t new : ChainState L) (o : HopValue) (next : RequestValue) → t.now.is_kept ≡ false
       → IsFollowed t.request.settings.max_redirects (length t.hops) o next
-      → new ≡ record t { hops = t.hops ++ o ∷ []; now = renewed t.now next; linked = false; earlier = counted t.earlier t.now.received; code = None }
+      → new ≡ record t { hops = t.hops ++ o ∷ []; now = renewed t.now next; linked = false; earlier = counted t.earlier t.now.received; code = None; content = [] }
       → GoesOnTo t o new stepped.Asks
   follows_on t new o next unkept f e = record {
     goes = follows next f.0 f.1 f.2 (e ∙ (λ i. record (onward t t.now o next) { link = sym (left_same t.now t.link unkept) i }));
@@ -164,32 +209,29 @@ module _ {L : Type 0} where
 
   -- it ends with it
   pub ends_on : (t new : ChainState L) (o : HopValue) (c : Code) (x : OutcomeValue) → t.now.is_kept ≡ false
-      → LeadTo t.request.settings.max_redirects t.request t.hops o.request → length t.hops ≤ t.request.settings.max_redirects → IsHop o → o.limit ≡ None
+      → LeadTo t.request.settings.max_redirects t.request t.hops o.request → length t.hops ≤ t.request.settings.max_redirects → IsHop o → (t.heads_alone ≡ false → o.limit ≡ None)
       → EndsWith t.request.settings.max_redirects (length t.hops) o c → x ≡ outcome_of t.heads_alone t.hops o c
       → new ≡ record t { hops = []; code = Some c; link = new.link; home = new.home } → SettlesHome t t.link o.request new
       → GoesOnTo t o new (stepped.Ended x)
-  ends_on t new o c x unkept leads few is held why same e home =
+  ends_on t new o c x unkept leads few is kept why same e home =
       subst (λ (y : OutcomeValue). GoesOnTo t o new (stepped.Ended y)) (sym same) (record {
         goes = finishes c why (e ∙ (λ i. record (record t { hops = []; code = Some c; link = new.link; home = new.home }) { now = sym (released_same t.now unkept) i }))
             (subst (λ (l : Option L). SettlesHome t l o.request new) (sym (left_same t.now t.link unkept)) home);
-        outcome = made t.heads_alone t.request t.hops o c leads few is held why;
+        outcome = made t.heads_alone t.request t.hops o c leads few is kept why;
         value = first_is t.request.settings.max_redirects t.request t.hops o leads;
       })
 
   -- what holds of a transfer whose hop has ended, with other hops
-  pub kept_with : (t : ChainState L) (hops : List HopValue) (alone : Bool) → IsSome t.code → IsChain t → length hops ≤ t.request.settings.max_redirects
+  pub kept_with : (t : ChainState L) (hops : List HopValue) (alone : Bool) → IsSome t.code → IsChain t → length hops ≤ t.request.settings.max_redirects → alone ≡ t.heads_alone
       → IsChain (record t { hops = hops; heads_alone = alone })
-  kept_with t hops alone some k few = record {
+  kept_with t hops alone some k few same = record {
     going = k.going;
     leads = λ e. absurd (not_none t.code some e);
     few = few;
     bytes = λ e. absurd (not_none t.code some e);
-    held = k.held;
+    kept = λ e. k.kept (sym same ∙ e);
+    handed = λ e. absurd (not_none t.code some e);
   }
-
-  -- its responses are held as before
-  pub released_limit : (n : ExchangeState L) → n.limit ≡ None → (released n).limit ≡ None
-  released_limit n held = elim (n.is_kept) as (λ b. (cond b (record n { link = None; attached = None; answers = []; is_reused = false; needs_probe = false; is_kept = false }) n).limit ≡ None) [ true ↦ held | false ↦ held ]
 
   pub released_unkept : (n : ExchangeState L) → (released n).is_kept ≡ false
   released_unkept n = elim (n.is_kept) as (λ b. n.is_kept ≡ b → (cond b (record n { link = None; attached = None; answers = []; is_reused = false; needs_probe = false; is_kept = false }) n).is_kept ≡ false) [ true ↦ λ e. refl | false ↦ λ e. e ] refl

@@ -1,19 +1,20 @@
 -- What contracts see of a transfer with its hops.
-use Rattle.std.specs.Prelude.{◌≡◌, ℕ, ◌≤◌, ◌+◌, ◌-◌, ◌^◌, min, Bool, true, false, List, [], ◌∷◌, ◌++◌, length, Option, Some, None, ◌↔◌, option_map, slice_get, if◌then◌else◌}
+use Rattle.std.specs.Prelude.{◌≡◌, ℕ, ◌≤◌, ◌+◌, ◌-◌, ◌^◌, ◌==◌, ◌⊎◌, not, ◌&&◌, min, Bool, true, false, List, [], ◌∷◌, ◌++◌, length, Option, Some, None, ◌↔◌, option_map, slice_get, if◌then◌else◌}
 use Rattle.std.specs.List.{sum_by}
 use Rattle.std.specs.Option.{option_or}
 use Rattle.mx_types.specs.declared.code.Code.{Code}
 use Rattle.mx_request.specs.Endpoint.{HostAndPort}
 use Rattle.mx_request.specs.Request.{RequestValue}
+use Rattle.mx_link.specs.Answers.{given}
 use Rattle.mx_exchange.specs.Exchanges as exchange
-use Rattle.mx_exchange.specs.Exchanges.{HopValue, ExchangeState, renewed}
+use Rattle.mx_exchange.specs.Exchanges.{HopValue, ExchangeState, TellsSending, renewed}
 use Rattle.mx_chain.specs.Hops.{LeadTo}
 
 -- A transfer. `request` is the first hop's. `hops` were followed, of which memory has the heads alone where `heads_alone` is true, and
 -- `earlier` counts the bytes of their responses; once the transfer has
 -- ended they are in its outcome, and here are none. `now` is the exchange of the hop that is under way, or was the last, and `linked` says
 -- whether a link was attached in it. `link` is what `take_link` hands out: a link that served a hop which has ended, and may serve again.
--- `home` is where it goes, once the transfer has ended.
+-- `home` is where it goes, once the transfer has ended. `content` is what was handed on of the hop that is under way.
 pub record ChainState (L : Type 0) : Type 0 where
   pub request : RequestValue
   pub hops : List HopValue
@@ -24,6 +25,7 @@ pub record ChainState (L : Type 0) : Type 0 where
   pub code : Option Code
   pub link : Option L
   pub home : Option HostAndPort
+  pub content : List ℕ
 
 -- a transfer of the request, at its beginning
 abbrev pub begun : {L : Type 0} → RequestValue → ChainState L
@@ -37,11 +39,16 @@ begun request = record {
   code = None;
   link = None;
   home = None;
+  content = [];
 }
 
 -- the same, of which memory will have the heads alone of each hop that is followed
 abbrev pub begun_with_heads : {L : Type 0} → RequestValue → ChainState L
 begun_with_heads request = record (begun request) { heads_alone = true }
+
+-- the same, whose content is handed on, at most so many bytes of it
+abbrev pub begun_flowing : {L : Type 0} → ℕ → RequestValue → ChainState L
+begun_flowing limit request = record (begun_with_heads request) { now = exchange.begun (Some limit) request }
 
 -- so many bytes more, held at the greatest number of 32 bits
 abbrev pub counted : ℕ → ℕ → ℕ
@@ -83,7 +90,7 @@ left_of before now = option_or (if now.is_kept then now.link else None) before
 
 -- the transfer, once its hop has ended
 abbrev pub halted : {L : Type 0} → ChainState L → ExchangeState L → HopValue → ChainState L
-halted t mid hop = record t { now = mid; code = Some hop.code }
+halted t mid hop = record t { now = mid; code = Some hop.code; content = [] }
 
 -- the transfer, once its hop, which ended so, is followed by a request
 abbrev pub onward : {L : Type 0} → ChainState L → ExchangeState L → HopValue → RequestValue → ChainState L
@@ -94,6 +101,7 @@ onward t mid hop next = record t {
   earlier = counted t.earlier mid.received;
   code = None;
   link = left_of t.link mid;
+  content = [];
 }
 
 -- the transfer, once it has ended with this hop
@@ -106,6 +114,12 @@ over t mid code link home = record t {
   home = home;
 }
 
+-- what was handed on of this content among the bytes of a hop: nothing where their final head sends the request on, else all of it
+abbrev pub IsPassedOn : ℕ → List ℕ → List ℕ → List ℕ → Type 0
+IsPassedOn most wire content handed =
+    ((content ≡ []) × (handed ≡ []))
+    ⊎ ((sends : Bool) × TellsSending wire sends × (handed ≡ (if not (most == 0) && sends then [] else content)))
+
 -- What holds of every transfer: as long as it goes on, its hops are a chain that leads to the request under way, and the bytes of their
 -- responses are counted.
 pub record IsChain {L : Type 0} (t : ChainState L) : Type 0 where
@@ -113,5 +127,6 @@ pub record IsChain {L : Type 0} (t : ChainState L) : Type 0 where
   pub leads : t.code ≡ None → LeadTo t.request.settings.max_redirects t.request t.hops t.now.request
   pub few : length t.hops ≤ t.request.settings.max_redirects
   pub bytes : t.code ≡ None → t.earlier ≡ bytes_in t.hops
-  -- the responses are held
-  pub held : t.now.limit ≡ None
+  -- where memory has all bytes of the hops that were followed the responses are held
+  pub kept : t.heads_alone ≡ false → t.now.limit ≡ None
+  pub handed : t.code ≡ None → IsPassedOn t.request.settings.max_redirects (given t.now.answers) t.now.content t.content

@@ -17,3 +17,8 @@ AreHeld (o ∷ hops) = (o.limit ≡ None) × AreHeld hops
 abbrev pub followed_of : Kept → FollowedHops
 followed_of (kept.Whole hops) = record { all = hops.items; heads_alone = false }
 followed_of (kept.Heads hops) = record { all = hops.items; heads_alone = true }
+
+-- where memory has all bytes of them their responses are held
+abbrev pub AreKept : Kept → Type 0
+AreKept (kept.Whole hops) = AreHeld hops.items
+AreKept (kept.Heads hops) = Unit {0}

@@ -4,7 +4,7 @@ use Rattle.mx_types.specs.declared.code.Code.{Code}
 use Rattle.mx_request.specs.Request.{RequestValue}
 use Rattle.mx_exchange.specs.Exchanges.{HopValue}
 use Rattle.mx_chain.specs.Hops.{is_redirect, next_of, EndsWith}
-use Rattle.mx_chain.specs.Outcomes.{IsOutcome}
+use Rattle.mx_chain.specs.Outcomes.{IsChainEnd}
 use Rattle.mx_chain.specs.Chains.{ChainState}
 use Rattle.mx_chain.specs.Steps.{GoesOn, IfEnded, how_of}
 use Rattle.mx_chain.specs.declared.chains.Stepped.{Stepped}
@@ -21,5 +21,5 @@ Decides most followed hop (Err code) = EndsWith most followed hop code
 -- what the transfer is once it went on from this hop, with this result of the turn
 pub record GoesOnTo {L : Type 0} (t : ChainState L) (o : HopValue) (new : ChainState L) (result : Stepped) : Type 0 where
   pub goes : GoesOn t t.now o new (how_of result)
-  pub outcome : IfEnded result IsOutcome
+  pub outcome : IfEnded result IsChainEnd
   pub value : IfEnded result (λ x. x.request ≡ t.request)

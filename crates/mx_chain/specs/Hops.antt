@@ -20,6 +20,10 @@ is_ok _ = false
 abbrev pub is_redirect : ℕ → HopValue → Bool
 is_redirect most hop = not (most == 0) && is_ok hop.code && is_redirect_status hop.status && is_some hop.location
 
+-- whether the final head of the hop sends its request on, whatever its code is
+abbrev pub sends_on : ℕ → HopValue → Bool
+sends_on most hop = not (most == 0) && (is_redirect_status hop.status && is_some hop.location)
+
 -- the request that follows the hop, or why none does
 abbrev pub next_of : HopValue → Result RequestValue RequestError
 next_of hop = next_request hop.request hop.status (unwrap_or hop.location [])

@@ -7,3 +7,5 @@ pub mod Going
 pub mod Laws
 -- Private: what memory has of the hops that were followed.
 pub mod Followed
+-- Private: what is handed on of a hop.
+pub mod Passing

@@ -7,11 +7,10 @@ use Rattle.mx_body.specs.Decision.{HasHeads}
 use Rattle.mx_body.specs.declared.part.Part.{Part}
 use Rattle.mx_exchange.specs.Hops as hop
 use Rattle.mx_exchange.specs.Exchanges.{HopValue}
-use Rattle.mx_chain.specs.Hops.{is_ok, LeadTo, EndsWith}
+use Rattle.mx_chain.specs.Hops.{is_ok, sends_on, LeadTo, EndsWith}
 
--- The first hop's request, the hops that were followed, of which memory has the heads alone where `heads_alone` is true, and the last one,
--- of which it has all. The bytes, the status and the parts are those of the last hop,
--- and there are parts with code 0 alone.
+-- The first hop's request, the hops that were followed, of which memory has the heads alone where `heads_alone` is true, and the last one.
+-- The bytes, the status and the parts are those of the last hop, and there are parts with code 0 alone. `content` is what was handed on.
 pub record OutcomeValue : Type 0 where
   pub request : RequestValue
   pub earlier : List HopValue
@@ -21,6 +20,7 @@ pub record OutcomeValue : Type 0 where
   pub code : Code
   pub status : ℕ
   pub parts : List Part
+  pub content : List ℕ
 
 -- all its hops, in their order
 abbrev pub hops_of : OutcomeValue → List HopValue
@@ -43,6 +43,12 @@ abbrev pub first_of : List HopValue → HopValue → RequestValue
 first_of [] last = last.request
 first_of (o ∷ hops) last = o.request
 
+-- rule redirect-content: Where the content is handed on, none is of a response whose final head sends its request on.
+--
+-- what was handed on of the content of the last hop, where at most so many redirects are followed
+abbrev pub passed_on : ℕ → HopValue → List ℕ
+passed_on most o = if sends_on most o then [] else o.content
+
 -- rule redirect-outcome: Body, status and code are the last hop's.
 --
 -- the outcome that these hops make, with this code
@@ -56,6 +62,7 @@ outcome_of heads_alone earlier last code = record {
   code = code;
   status = last.status;
   parts = if is_ok code then last.parts else [];
+  content = passed_on (first_of earlier last).settings.max_redirects last;
 }
 
 -- the codes that say why a redirect was not followed: as many were followed as may be, the next request is refused, or a growth was
@@ -67,17 +74,27 @@ is_unfollowed_code code.OutOfMemory = true
 is_unfollowed_code _ = false
 
 -- the codes that a transfer ends with: these, and those of a hop
-abbrev pub is_outcome_code : Code → Bool
-is_outcome_code c = hop.is_hop_code c || is_unfollowed_code c
+abbrev pub is_outcome_code : Code → Option ℕ → Bool
+is_outcome_code c limit = hop.is_hop_code c limit || is_unfollowed_code c
 
 -- The hops are a chain: each later request is the next request of the hop before, and at most as many were followed as the first request
 -- allows. The code is the last hop's, or says why no other followed it.
+pub record IsChainEnd (o : OutcomeValue) : Type 0 where
+  pub value : o ≡ outcome_of o.heads_alone o.earlier o.last o.code
+  pub request : IsRequest o.request
+  pub leads : LeadTo o.request.settings.max_redirects o.request o.earlier o.last.request
+  pub few : length o.earlier ≤ o.request.settings.max_redirects
+  pub last : hop.IsHop o.last
+  pub ends : EndsWith o.request.settings.max_redirects (length o.earlier) o.last o.code
+  -- where memory has all bytes of the hops that were followed the responses are held
+  pub kept : o.heads_alone ≡ false → o.last.limit ≡ None
+
+-- the same, of a transfer whose responses are held
 pub record IsOutcome (o : OutcomeValue) : Type 0 where
   pub value : o ≡ outcome_of o.heads_alone o.earlier o.last o.code
   pub request : IsRequest o.request
   pub leads : LeadTo o.request.settings.max_redirects o.request o.earlier o.last.request
   pub few : length o.earlier ≤ o.request.settings.max_redirects
   pub last : hop.IsHop o.last
-  -- its response is held
   pub held : o.last.limit ≡ None
   pub ends : EndsWith o.request.settings.max_redirects (length o.earlier) o.last o.code

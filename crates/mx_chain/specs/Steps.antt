@@ -1,5 +1,5 @@
 -- What one turn of a transfer does.
-use Rattle.std.specs.Prelude.{◌≡◌, ◌≢◌, ◌<◌, true, List, length, Option, None, Ok, IsSome, ◌⊎◌}
+use Rattle.std.specs.Prelude.{◌≡◌, ◌≢◌, ℕ, ◌<◌, true, List, length, Option, None, Ok, IsSome, ◌⊎◌}
 use Rattle.mx_types.specs.declared.code.Code.{Code}
 use Rattle.mx_request.specs.Request.{RequestValue}
 use Rattle.mx_link.specs.declared.answers.Answer.{Answer}
@@ -22,6 +22,11 @@ abbrev pub how_of : Stepped → How
 how_of stepped.Waits = waits
 how_of stepped.Asks = asks
 how_of (stepped.Ended o) = ends o
+
+-- what was handed on: the outcome has it, where the turn ended the transfer
+abbrev pub content_by : {L : Type 0} → ChainState L → How → List ℕ
+content_by new (ends o) = o.content
+content_by new _ = new.content
 
 -- this holds for the outcome, where the turn ended it
 abbrev pub IfEnded : Stepped → (OutcomeValue → Type 0) → Type 0
@@ -51,7 +56,7 @@ pub data GoesOn {L : Type 0} (t : ChainState L) (mid : ExchangeState L) (o : Hop
 
 -- A turn is one turn of the hop that is under way, and how the chain goes on from its end.
 pub data Steps {L : Type 0} (history : L → List Answer) (t new : ChainState L) : How → Type 0 where
-  waited : Turns history (clocked t.now) new.now hop.waits → new ≡ record t { now = new.now } → Steps history t new waits
-  asked : Turns history (clocked t.now) new.now hop.asks → new ≡ record t { now = new.now } → Steps history t new asks
+  waited : Turns history (clocked t.now) new.now hop.waits → new ≡ record t { now = new.now; content = new.content } → Steps history t new waits
+  asked : Turns history (clocked t.now) new.now hop.asks → new ≡ record t { now = new.now; content = new.content } → Steps history t new asks
   ended : {how : How} (o : HopValue) (mid : ExchangeState L) → Turns history (clocked t.now) mid (hop.ends o)
       → GoesOn (halted t mid o) mid o new how → Steps history t new how

@@ -1,17 +1,23 @@
 //! A transfer with its hops.
-ghost use Rattle.std.specs.Prelude.{◌≡◌, ◌≢◌, ◌≤◌, ◌<◌, ◌↔◌, ◌⊎◌, ℕ, true, false, None, Some, Ok, Err, IsSome, IfSome, IsTrue, MatchResult, is_some, option_map, option_copied, length};
+ghost use Rattle.std.specs.Prelude.{◌≡◌, ◌≢◌, ◌≤◌, ◌<◌, ◌↔◌, ◌⊎◌, ◌==◌, not, ◌&&◌, [], ℕ, Bool, true, false, None, Some, Ok, Err, IsSome, IfSome, IsTrue, MatchResult, is_some, option_map, option_copied, length};
 ghost use Rattle.mx_request.specs.declared.error.RequestError.TheVariants as refusal;
-ghost use Rattle.mx_exchange.specs.Exchanges.{ExchangeState, WantsLink, IsDue, IsExchange, KeepsToken, attached, capped, clocked, renewed};
+ghost use Rattle.mx_line.specs.Lines.{HandsOver};
+ghost use Rattle.mx_exchange.specs.Exchanges.{ExchangeState, WantsLink, IsDue, IsExchange, KeepsToken, TellsSending, attached, capped, clocked, renewed};
+ghost use Rattle.mx_exchange.specs.Exchanges as exchanges;
+ghost use Rattle.mx_exchange.specs.Turns as hop_turn;
+ghost use Rattle.mx_flow.specs.Streams.{limit_of};
 ghost use Rattle.mx_types.specs.Code.{is_link_code};
-ghost use Rattle.mx_exchange.specs.Endings.{IsUndecided};
+ghost use Rattle.mx_line.specs.Endings.{IsUndecided, is_given_code};
 ghost use Rattle.mx_chain.specs.Hops.{is_redirect, next_of, LeadTo, EndsWith};
-ghost use Rattle.mx_chain.specs.Chains.{ChainState, IsChain, begun, begun_with_heads, bytes_in, received_of, home_by, home_of, released, left_of};
+ghost use Rattle.mx_chain.specs.Passing.{SettlesContent};
+ghost use Rattle.mx_chain.specs.Chains.{ChainState, IsChain, begun, begun_with_heads, begun_flowing, bytes_in, received_of, home_by, home_of, released, left_of};
 
+use crate::ends::ChainEnd;
 use crate::followed::Hops;
-use crate::outcomes::{Outcome, is_ok};
+use crate::outcomes::is_ok;
 use mx_exchange::{Exchange, Hop, ReadBuffer, Turned, Want};
 use mx_link::Link;
-use mx_request::{Endpoint, Request, RequestError, is_redirect as sends_on};
+use mx_request::{Endpoint, Request, RequestError, is_redirect};
 use mx_types::Code;
 use std::alloc::Global;
 use std::marker::Model;
@@ -25,7 +31,7 @@ pub enum Stepped {
     /// It asks for another turn at once.
     Asks,
     /// It has ended.
-    Ended(Outcome),
+    Ended(ChainEnd),
 }
 
 /// A request, and its hops: one exchange after another, as redirects lead on.
@@ -38,6 +44,8 @@ pub struct Chain<L: Link> {
     code: Option<Code>,
     // The bytes of the hops that were followed.
     earlier: u32,
+    // What the hop under way hands on is dropped, as its final head sends its request on.
+    drops: bool,
     // The link of a hop that has ended, until it is taken or another is attached.
     idle: Option<L>,
     // A link was attached in this hop.
@@ -57,6 +65,7 @@ impl<L: Link> Drop for Chain<L> {
             exchange,
             code: _,
             earlier: _,
+            drops: _,
             idle,
             is_linked: _,
             home,
@@ -79,6 +88,62 @@ fn copy_of(alloc: Global, endpoint: Option<&Endpoint>) -> Option<Endpoint>
     }
 }
 
+// Whether a final head has come that sends its request on, after a turn.
+fn sends_on<L: Link>(exchange: &Exchange<L>, turned: &Turned) -> bool
+    requires { hop_turn.IfGoing turned.now (exchange.now.code ≡ None) }
+    ensures { TellsSending (hop_turn.wire_by exchange.now (hop_turn.how_of turned.now)) result }
+{
+    match turned {
+        Turned::Waits => exchange.sends_on(),
+        Turned::Asks => exchange.sends_on(),
+        Turned::Ended(hop) => {
+            // proof: what holds of a hop
+            hop.know();
+            hop.sends_on()
+        }
+    }
+}
+
+// rule redirect-content
+// Whether what the hop hands on is dropped, after a turn that has left so many bytes of content where there were `before`.
+fn drops_by<L: Link>(
+    most: u8,
+    dropped: bool,
+    exchange: &Exchange<L>,
+    turned: &Turned,
+    before: usize,
+    len: usize,
+) -> bool
+    requires { hop_turn.IfGoing turned.now (exchange.now.code ≡ None) }
+    ensures none { len ≤ before → result ≡ dropped }
+    ensures some { before < len → (sends : Bool) × TellsSending (hop_turn.wire_by exchange.now (hop_turn.how_of turned.now)) sends × (result ≡ (not (most == 0) && sends)) }
+{
+    if len <= before {
+        return dropped;
+    }
+    let sends = sends_on(exchange, turned);
+    most != 0 && sends
+}
+
+// Takes what a turn has added behind so many bytes out again, where it is dropped. The answer is whether it is.
+fn settle_content<L: Link>(
+    most: u8,
+    dropped: bool,
+    exchange: &Exchange<L>,
+    turned: &Turned,
+    before: usize,
+    out: &mut Vec<u8>,
+) -> bool
+    requires { hop_turn.IfGoing turned.now (exchange.now.code ≡ None) }
+    ensures { SettlesContent most dropped (hop_turn.wire_by exchange.now (hop_turn.how_of turned.now)) before out.old.items out.new.items result }
+{
+    let drops = drops_by(most, dropped, exchange, turned, before, out.len());
+    if drops {
+        out.truncate(before);
+    }
+    drops
+}
+
 // The request that follows a hop.
 fn next_request(alloc: Global, hop: &Hop) -> Result<Request, RequestError>
     requires { (most : ℕ) × (is_redirect most hop.now ≡ true) }
@@ -93,6 +158,7 @@ fn next_request(alloc: Global, hop: &Hop) -> Result<Request, RequestError>
 impl<L: Link> Model for Chain<L> {
     ghost use Rattle.std.specs.Prelude.{◌≡◌};
     ghost use Rattle.mx_chain.specs.Chains.{ChainState, IsChain};
+    ghost use Rattle.mx_chain.specs.Passing.{passed};
 
     ghost Value = { ChainState L };
 
@@ -106,6 +172,7 @@ impl<L: Link> Model for Chain<L> {
       code = c.code;
       link = c.idle;
       home = c.home;
+      content = passed c.drops c.exchange.content;
     } };
 
     ghost invariant = { λ c. record {
@@ -120,45 +187,74 @@ impl<L: Link> Model for Chain<L> {
         code = c.code;
         link = c.idle;
         home = c.home;
+        content = passed c.drops c.exchange.content;
       });
     } };
 }
 
 impl<L: Link> Chain<L> {
     ghost use Rattle.mx_chain.specs.Going.{IsFollowed, Decides, GoesOnTo};
-    ghost use Rattle.mx_chain.specs.Steps.{how_of, IfEnded, IfGoing, Steps, SettlesHome};
-    ghost use Rattle.mx_chain.specs.Outcomes.{IsOutcome, hops_of};
+    ghost use Rattle.mx_chain.specs.Steps.{how_of, content_by, IfEnded, IfGoing, Steps, SettlesHome};
+    ghost use Rattle.mx_chain.specs.Outcomes.{IsChainEnd, hops_of};
     ghost use Rattle.mx_types.specs.declared.code.Code.TheVariants as code;
 
-    /// A transfer of the request, which keeps all bytes of the hops that it follows. It takes no memory; what its turns grow comes from
-    /// `alloc`.
+    /// A transfer of the request, whose responses are held, and which keeps all bytes of the hops that it follows. It takes no memory; what
+    /// its turns grow comes from `alloc`.
     pub fn new(alloc: Global, request: Request) -> Chain<L>
         ensures { result ≡ begun request }
     {
-        Chain::make(alloc, request, false)
+        let about = Snapshot::of(&request);
+        let most = request.max_redirects();
+        Chain::make(alloc, about, most, Exchange::new(alloc, request), false)
     }
 
     /// The same, which keeps of each hop that it follows its heads alone: the body is freed before the next hop begins.
     pub fn keeping_heads(alloc: Global, request: Request) -> Chain<L>
         ensures { result ≡ begun_with_heads request }
     {
-        Chain::make(alloc, request, true)
+        let about = Snapshot::of(&request);
+        let most = request.max_redirects();
+        Chain::make(alloc, about, most, Exchange::new(alloc, request), true)
     }
 
-    // A transfer of the request, and whether it keeps heads alone.
-    fn make(alloc: Global, request: Request, heads_alone: bool) -> Chain<L>
-        ensures { result ≡ record (begun request) { heads_alone = heads_alone } }
+    /// The same, which hands the content of its response on as it comes, and keeps the heads alone of that, too. The content may have
+    /// `most_bytes` bytes, and never more than 9,223,372,036,854,775,807, which is also the limit where there is none.
+    pub fn flowing(alloc: Global, request: Request, most_bytes: Option<u64>) -> Chain<L>
+        ensures { result ≡ begun_flowing (limit_of most_bytes) request }
     {
         let about = Snapshot::of(&request);
         let most = request.max_redirects();
+        Chain::make(
+            alloc,
+            about,
+            most,
+            Exchange::flowing(alloc, request, most_bytes),
+            true,
+        )
+    }
+
+    // A transfer of the request of this exchange, and whether it keeps heads alone.
+    fn make(
+        alloc: Global,
+        about: Snapshot<Request>,
+        most: u8,
+        exchange: Exchange<L>,
+        heads_alone: bool,
+    ) -> Chain<L>
+        requires most { most ≡ about.value.settings.max_redirects }
+        requires begun { exchange ≡ exchanges.begun exchange.limit about.value }
+        requires kept { heads_alone ≡ false → exchange.limit ≡ None }
+        ensures { result ≡ record (begun about.value) { heads_alone = heads_alone; now = exchange } }
+    {
         Chain {
             alloc,
             about,
             most,
             hops: Hops::new(alloc, heads_alone),
-            exchange: Exchange::new(alloc, request),
+            exchange,
             code: None,
             earlier: 0,
+            drops: false,
             idle: None,
             is_linked: false,
             home: None,
@@ -178,6 +274,7 @@ impl<L: Link> Chain<L> {
             exchange,
             code: _,
             earlier: _,
+            drops: _,
             idle,
             is_linked: _,
             home,
@@ -208,6 +305,8 @@ impl<L: Link> Chain<L> {
         requires fresh { self.old.now.needs_fresh ≡ true → is_reused ≡ false }
         ensures { self.new ≡ record self.old { now = attached self.old.now link is_reused; linked = true; link = None } }
     {
+        // proof: nothing was handed on without a link
+        self.exchange.know();
         self.idle = None;
         self.is_linked = true;
         self.exchange.attach(link, is_reused);
@@ -220,6 +319,16 @@ impl<L: Link> Chain<L> {
         ensures { self.new ≡ record self.old { now = record self.old.now { failure = Some code } } }
     {
         self.exchange.fail_link(code);
+    }
+
+    /// Gives the code that it ends with at its next turn, as what takes the content can't go on. Its link is asked nothing more.
+    pub fn fail(&mut self, code: Code)
+        requires going { self.old.code ≡ None }
+        requires flowing { self.old.now.limit ≢ None }
+        requires code { is_given_code code self.old.now.limit ≡ true }
+        ensures { self.new ≡ record self.old { now = record self.old.now { failure = Some code } } }
+    {
+        self.exchange.fail(code);
     }
 
     /// Gives the buffer of its reads, and takes this one in its place, as who lends one does before a turn and after it.
@@ -362,7 +471,7 @@ impl<L: Link> Chain<L> {
         requires unkept { self.old.now.is_kept ≡ false }
         requires leads { LeadTo self.old.request.settings.max_redirects self.old.request self.old.hops hop.request }
         requires cause { EndsWith self.old.request.settings.max_redirects (length self.old.hops) hop code }
-        requires held { hop.limit ≡ None }
+        requires kept { self.old.heads_alone ≡ false → hop.limit ≡ None }
         ensures { GoesOnTo self.old hop self.new result }
     {
         // proof: what holds of a hop
@@ -370,7 +479,7 @@ impl<L: Link> Chain<L> {
         self.settle_home(&hop);
         self.code = Some(code);
         let hops = self.hops.take(self.alloc);
-        Stepped::Ended(Outcome::new(hops, hop, code))
+        Stepped::Ended(ChainEnd::new(hops, hop, code))
     }
 
     // Begins the hop of the next request, with so many bytes before it.
@@ -379,10 +488,11 @@ impl<L: Link> Chain<L> {
         requires leads { LeadTo self.old.request.settings.max_redirects self.old.request self.old.hops next }
         requires few { length self.old.hops ≤ self.old.request.settings.max_redirects }
         requires bytes { earlier ≡ bytes_in self.old.hops }
-        ensures { self.new ≡ record self.old { now = renewed self.old.now next; linked = false; earlier = earlier; code = None } }
+        ensures { self.new ≡ record self.old { now = renewed self.old.now next; linked = false; earlier = earlier; code = None; content = [] } }
     {
         self.exchange.renew(next);
         self.earlier = earlier;
+        self.drops = false;
         self.is_linked = false;
         self.code = None;
     }
@@ -395,7 +505,7 @@ impl<L: Link> Chain<L> {
         requires follows { IsFollowed self.old.request.settings.max_redirects (length self.old.hops) hop next }
         requires bytes { self.old.earlier ≡ bytes_in self.old.hops }
         requires wire { self.old.now.received ≡ capped (length hop.wire) }
-        requires held { hop.limit ≡ None }
+        requires kept { self.old.heads_alone ≡ false → hop.limit ≡ None }
         ensures { GoesOnTo self.old hop self.new result }
     {
         // proof: what holds of a hop
@@ -418,7 +528,7 @@ impl<L: Link> Chain<L> {
     fn redirects(&self, hop: &Hop) -> bool
         ensures { result ≡ is_redirect self.now.request.settings.max_redirects hop.now }
     {
-        self.most != 0 && is_ok(hop.code()) && sends_on(hop.status()) && hop.location().is_some()
+        self.most != 0 && is_ok(hop.code()) && is_redirect(hop.status()) && hop.location().is_some()
     }
 
     // rule redirect-limit
@@ -452,7 +562,7 @@ impl<L: Link> Chain<L> {
         requires leads { LeadTo self.old.request.settings.max_redirects self.old.request self.old.hops hop.request }
         requires bytes { self.old.earlier ≡ bytes_in self.old.hops }
         requires wire { self.old.now.received ≡ capped (length hop.wire) }
-        requires held { hop.limit ≡ None }
+        requires kept { self.old.heads_alone ≡ false → hop.limit ≡ None }
         ensures { GoesOnTo self.old hop self.new result }
     {
         self.release();
@@ -462,10 +572,15 @@ impl<L: Link> Chain<L> {
         }
     }
 
-    /// Takes one turn: at most one probe, 64 reads and 64 writes, all of one hop.
-    pub fn turn(&mut self) -> Stepped
+    // rule redirect-content
+    /// Takes one turn: at most one probe, 64 reads and 64 writes, all of one hop; where the content is handed on, at most 16 reads. Content
+    /// that is handed on is added to `out`: nothing of a response that is held, nor of one whose final head sends its request on.
+    pub fn turn(&mut self, out: &mut Vec<u8>) -> Stepped
         requires { self.old.code ≡ None }
         ensures turn { Steps L.history self.old self.new (how_of result) }
+        ensures handed { HandsOver self.old.content (content_by self.new (how_of result)) out.old.items out.new.items }
+        ensures held { self.old.now.limit ≡ None → out.new.items ≡ out.old.items }
+        ensures limit { (self.new.now.limit ≡ self.old.now.limit) × IfEnded result (λ o. o.last.limit ≡ self.old.now.limit) }
         ensures value { IfEnded result (λ o. o.request ≡ self.old.request) }
         ensures again { IfGoing result (self.new.code ≡ None) }
         ensures same { IfGoing result (self.new.request ≡ self.old.request) }
@@ -477,16 +592,17 @@ impl<L: Link> Chain<L> {
         ensures received { IfEnded result (λ o. received_of self.new ≡ bytes_in (hops_of o)) }
         // the count of bytes never falls
         ensures counted { received_of self.old ≤ received_of self.new }
-        ensures outcome { IfEnded result IsOutcome }
+        ensures outcome { IfEnded result IsChainEnd }
         ensures token { KeepsToken L.token_of self.old.now.link self.new.now.link }
         ensures known { IsChain self.new }
         ensures hop { IsExchange L.history L.asked L.token_of self.new.now }
         ensures undecided { IfGoing result (IsUndecided self.new.now.limit self.new.now.request.method self.new.now.answers) }
     {
-        // Nothing is handed on of a response that is held.
-        let mut none = Vec::new(self.alloc);
-        let turned = self.exchange.turn(&mut none);
-        drop(none);
+        // proof: what holds of the exchange before the turn
+        self.exchange.know();
+        let before = out.as_slice().len();
+        let turned = self.exchange.turn(out);
+        self.drops = settle_content(self.most, self.drops, &self.exchange, &turned, before, out);
         match turned {
             Turned::Waits => Stepped::Waits,
             Turned::Asks => Stepped::Asks,

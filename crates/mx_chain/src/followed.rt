@@ -1,5 +1,5 @@
 //! The hops that a transfer followed: all of their bytes, or their heads alone.
-ghost use Rattle.std.specs.Prelude.{◌≡◌, ◌<◌, ◌↔◌, ◌-◌, ◌++◌, ◌∷◌, [], None, IsSome, IfSome, IfErr, is_ok, length, slice_get, option_map, option_copied, if◌then◌else◌};
+ghost use Rattle.std.specs.Prelude.{◌≡◌, ◌<◌, ◌↔◌, ◌-◌, ◌++◌, ◌∷◌, [], false, None, IsSome, IfSome, IfErr, is_ok, length, slice_get, option_map, option_copied, if◌then◌else◌};
 ghost use Rattle.mx_body.specs.Decision.{HasHeads};
 
 use mx_body::heads_len;
@@ -39,7 +39,6 @@ impl HopHeads {
     // rule redirect-heads
     /// What is left of that hop. Its body is freed.
     fn of(hop: Hop) -> HopHeads
-        requires { hop.limit ≡ None }
         ensures { result ≡ hop }
     {
         let ended = Snapshot::of(&hop);
@@ -83,7 +82,6 @@ impl HopHeads {
 
 /// The heads of a hop's response.
 pub(crate) fn heads_of(hop: &Hop) -> &[u8]
-    requires { hop.now.limit ≡ None }
     ensures { HasHeads hop.now.wire result.now }
 {
     let kept = hop.kept();
@@ -92,7 +90,6 @@ pub(crate) fn heads_of(hop: &Hop) -> &[u8]
 
 /// Adds what is left of a hop. Where memory for its place is refused, the hop comes back whole.
 fn push_heads(hops: &mut Vec<HopHeads>, hop: Hop) -> Result<(), AllocFailed<Hop>>
-    requires { hop.limit ≡ None }
     ensures items { hops.new.items ≡ if is_ok result then hops.old.items ++ hop ∷ [] else hops.old.items }
     ensures value_returned { IfErr result (λ e. e.value ≡ hop) }
 {
@@ -121,13 +118,13 @@ pub(crate) struct Hops {
 }
 
 impl Model for Hops {
-    ghost use Rattle.mx_chain.specs.Followed.{AreHeld, FollowedHops, followed_of};
+    ghost use Rattle.mx_chain.specs.Followed.{AreKept, FollowedHops, followed_of};
 
     ghost Value = { FollowedHops };
 
     ghost view = { λ h. followed_of h.kept };
 
-    ghost invariant = { λ h. AreHeld (followed_of h.kept).all };
+    ghost invariant = { λ h. AreKept h.kept };
 }
 
 impl Hops {
@@ -211,9 +208,9 @@ impl Hops {
         }
     }
 
-    /// Adds a hop, whose response is held. Where memory for it is refused, it comes back whole.
+    /// Adds a hop. Its response is held, unless heads alone are kept. Where memory for it is refused, it comes back whole.
     pub fn push(&mut self, hop: Hop) -> Result<(), AllocFailed<Hop>>
-        requires { hop.limit ≡ None }
+        requires { self.old.heads_alone ≡ false → hop.limit ≡ None }
         ensures items { self.new.all ≡ if is_ok result then self.old.all ++ hop ∷ [] else self.old.all }
         ensures same { self.new.heads_alone ≡ self.old.heads_alone }
         ensures value_returned { IfErr result (λ e. e.value ≡ hop) }

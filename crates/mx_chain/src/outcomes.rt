@@ -5,10 +5,10 @@ ghost use Rattle.mx_body.specs.declared.part.Part.{Part};
 ghost use Rattle.mx_body.specs.Parts.{joined};
 ghost use Rattle.mx_body.specs.Decision.{HasStatus};
 ghost use Rattle.mx_exchange.specs.Hops as hop;
-ghost use Rattle.mx_exchange.specs.Order.{InOrder};
+ghost use Rattle.mx_line.specs.Order.{InOrder};
 ghost use Rattle.mx_link.specs.Answers.{given};
 ghost use Rattle.mx_chain.specs.Hops as spec;
-ghost use Rattle.mx_chain.specs.Outcomes.{OutcomeValue, IsOutcome, AreHeadsAt, hops_of, outcome_of, wire_at, is_outcome_code};
+ghost use Rattle.mx_chain.specs.Outcomes.{OutcomeValue, IsOutcome, AreHeadsAt, hops_of, wire_at, is_outcome_code};
 ghost use Rattle.mx_types.specs.declared.code.Code.TheVariants as code;
 
 use crate::followed::{Hops, heads_of};
@@ -19,11 +19,12 @@ use std::alloc::Global;
 use std::marker::Model;
 
 // rule redirect-outcome
-/// What a transfer ended with: its hops, of which each but the last was followed, and its code. The response is the last hop's.
+/// What a transfer ended with whose responses are held: its hops, of which each but the last was followed, and its code. The response is the
+/// last hop's.
 pub struct Outcome {
-    earlier: Hops,
-    last: Hop,
-    code: Code,
+    pub(crate) earlier: Hops,
+    pub(crate) last: Hop,
+    pub(crate) code: Code,
 }
 
 // Written out, and not derived: a crate that drops an outcome cites its proof.
@@ -57,17 +58,6 @@ pub(crate) fn is_ok(code: Code) -> bool
 }
 
 impl Outcome {
-    pub(crate) fn new(earlier: Hops, last: Hop, code: Code) -> Outcome
-        requires { IsOutcome (outcome_of earlier.heads_alone earlier.all last code) }
-        ensures { result ≡ outcome_of earlier.heads_alone earlier.all last code }
-    {
-        Outcome {
-            earlier,
-            last,
-            code,
-        }
-    }
-
     /// What holds of every outcome. It does nothing: a call gives its caller's proof the law.
     pub fn know(&self)
         ensures { IsOutcome self.now }
@@ -156,7 +146,7 @@ impl Outcome {
         ensures code { result ≡ self.now.code }
         ensures whole { result ≡ code.Ok → hop.IsWhole self.now.last }
         ensures content { result ≡ code.Ok → hop.HasContent self.now.last }
-        ensures listed { is_outcome_code result ≡ true }
+        ensures listed { is_outcome_code result self.now.last.limit ≡ true }
     {
         let ended = self.last.code();
         // proof: the code is the last hop's

@@ -1,6 +1,6 @@
 -- What one poll does, by the way it ends.
 use Rattle.std.proofs.Common.{◌≡◌, ℕ, ◌≤◌, Bool, true, false, List, [], ◌∷◌, ◌++◌, length, refl, sym, ◌∙◌, ap, subst, append_assoc, append-nil, length-append, Option, Some, None, ◌↔◌, ◌⊎◌, inl, inr, arith}
-use Rattle.std.specs.Prelude.{IfSome}
+use Rattle.std.specs.Prelude.{IfSome, count_by}
 use Rattle.std.proofs.lemmas.Grind.{flat_map-append}
 use Rattle.mx_types.specs.declared.code.Code.{Code}
 use Rattle.mx_types.specs.declared.code.Code.TheVariants as code
@@ -13,17 +13,16 @@ use Rattle.mx_body.specs.declared.decoder.Stand.TheVariants as stand
 use Rattle.mx_reader.specs.Judgements.{Judgement, Judges}
 use Rattle.mx_reader.specs.Readers.{ReaderValue, may_keep}
 use Rattle.mx_reader.proofs.CodeLemmas.{codes_are_listed}
-use Rattle.mx_link.specs.Answers.{given, given_by}
+use Rattle.mx_link.specs.Answers.{given, given_by, is_read, is_write}
 use Rattle.mx_link.specs.declared.answers.Answer.{Answer}
 use Rattle.mx_link.specs.declared.answers.Answer.TheVariants as said
-use Rattle.mx_exchange.specs.Order.{InOrder}
-use Rattle.mx_types.specs.Code.{is_link_code}
-use Rattle.mx_exchange.specs.Endings.{EndsBy, by_bytes, by_end, by_fault, by_memory, MustRetry, code_of, fault_code}
-use Rattle.mx_exchange.specs.Exchanges.{HopValue, ExchangeState, IsDue, HandsOver, KeepsToken, capped, clocked, dropped}
-use Rattle.mx_exchange.specs.Turns.{How, waits, asks, ends, MayTouch, ProbeFails, Probed, Answered, GoesOn, EndsWith, StopsWith, Exchanged, unserved, lost, blocked, unfinished, ended, Turns, late, given_up, paused, refused, turned}
-use Rattle.mx_exchange.specs.Lines.{LineState, ServesTo}
-use Rattle.mx_exchange.specs.declared.calls.Halt.{Halt}
-use Rattle.mx_exchange.specs.declared.calls.Halt.TheVariants as halt
+use Rattle.mx_line.specs.Order.{InOrder, most_turn_writes}
+use Rattle.mx_line.specs.Endings.{EndsBy, by_bytes, by_end, by_fault, by_memory, MustRetry, code_of, fault_code, is_given_code}
+use Rattle.mx_exchange.specs.Exchanges.{HopValue, ExchangeState, IsDue, KeepsToken, capped, clocked, dropped}
+use Rattle.mx_exchange.specs.Turns.{How, waits, asks, ends, wire_by, MayTouch, ProbeFails, Probed, most_turn_reads, Answered, GoesOn, EndsWith, StopsWith, Exchanged, unserved, lost, blocked, unfinished, ended, Turns, late, given_up, paused, refused, turned}
+use Rattle.mx_line.specs.Lines.{HandsOver, LineState, ServesTo}
+use Rattle.mx_line.specs.declared.calls.Halt.{Halt}
+use Rattle.mx_line.specs.declared.calls.Halt.TheVariants as halt
 
 no_fault : (a : Answer) → fault_code a ≡ Some code.OperationTimedout → ⊥
 no_fault said.Connected e = cc
@@ -67,7 +66,7 @@ none_added was is before after none nothing h =
 module _ {L : Type 0} (history : L → List Answer) where
   module _ (old new : ExchangeState L) (line next : LineState L) (d : ReaderValue) (how : Halt)
       (had : old.link ≡ Some line.link) (answers : old.answers ≡ line.answers) (again : line.is_reused ≡ old.is_reused) (about : line.request ≡ old.request)
-      (was : history line.link ≡ history line.attached ++ line.answers) (is : history next.link ≡ history next.attached ++ next.answers) (t : ServesTo line next how d) where
+      (was : history line.link ≡ history line.attached ++ line.answers) (is : history next.link ≡ history next.attached ++ next.answers) (most : ℕ) (fits : most ≡ most_turn_reads old.limit) (t : ServesTo most line next how d) where
     grown : next.answers ≡ old.answers ++ t.more
     grown = ap (λ (l : LineState L). l.answers) t.grows ∙ ap (λ (l : List Answer). l ++ t.more) (sym answers)
 
@@ -87,7 +86,7 @@ module _ {L : Type 0} (history : L → List Answer) where
       told = rw (had, has) told;
       served = λ e. let x : Some line.link ≡ None = sym had ∙ e in cc;
       connects = t.connects;
-      reads = t.reads;
+      reads = subst (λ (n : ℕ). count_by is_read t.more ≤ n) fits t.reads;
       writes = t.writes;
     }
 
@@ -127,7 +126,9 @@ module _ {L : Type 0} (history : L → List Answer) where
         let so = rw e at t.so in
         let link : new.link ≡ Some next.link = ap (λ (x : ExchangeState L). x.link) same in
         let all : new.answers ≡ next.answers = ap (λ (x : ExchangeState L). x.answers) same in
-        unfinished (answered new link all) so.1 (goes same so.0.wire)
+        let full : (count_by is_read t.more ≡ most_turn_reads old.limit) ⊎ (count_by is_write t.more ≡ most_turn_writes) =
+        subst (λ (n : ℕ). (count_by is_read t.more ≡ n) ⊎ (count_by is_write t.more ≡ most_turn_writes)) fits so.1 in
+        unfinished (answered new link all) full (goes same so.0.wire)
 
     pub Exchange-lost : how ≡ halt.Lost → InOrder next.is_reused next.request.bytes next.answers → new ≡ dropped old → Exchanged history old new waits
     Exchange-lost e order same =
@@ -283,11 +284,13 @@ module _ {L : Type 0} (history : L → List Answer) where
   untimely limit kind past wire j c (by_memory earlier last e h w m) t = cc
 
   -- 28 comes just where the deadline is due
-  pub Turns-late : (t new : ExchangeState L) (o : HopValue) → IfSome t.failure (λ (c : Code). is_link_code c ≡ true) → Turns history t new (ends o) → (o.code ≡ code.OperationTimedout) ↔ IsDue t.deadline t.moment
+  pub Turns-late : (t new : ExchangeState L) (o : HopValue) → IfSome t.failure (λ (c : Code). is_given_code c t.limit ≡ true) → Turns history t new (ends o) → (o.code ≡ code.OperationTimedout) ↔ IsDue t.deadline t.moment
   Turns-late t new o f (late due is s) = ((λ e. due), (λ d. is))
   Turns-late t new o f (given_up early is s) = (
-    (λ e. let listed : is_link_code o.code ≡ true = rw is at f in
-        let x : is_link_code code.OperationTimedout ≡ true = ap is_link_code (sym e) ∙ listed in cc),
+    (λ e. let listed : is_given_code o.code t.limit ≡ true = rw is at f in
+        let x : is_given_code code.OperationTimedout t.limit ≡ true = ap (λ (c : Code). is_given_code c t.limit) (sym e) ∙ listed in
+        let bad : false ≡ true = x in
+        cc),
     (λ d. absurd (early d)),
   )
   Turns-late t new o f (turned m mid p (ended a e r)) = ((λ c. absurd (untimely _ _ _ _ _ _ e.cause c)), (λ d. absurd (m.0.0 d)))
@@ -320,6 +323,45 @@ module _ {L : Type 0} (history : L → List Answer) where
   wire_holds limit kind past more answers wire j c n some (by_fault earlier last e w m is) = rw w (longer past more answers n)
   wire_holds limit kind past more answers wire j c n some (by_memory earlier last e h w m) =
       let r = before_last past more earlier last some (sym n ∙ e.0) in rw w (longer past r.0 earlier r.1)
+
+  -- the bytes go on from those before, or there were none
+  abbrev pub GrowsFrom : List ℕ → List ℕ → Type 0
+  GrowsFrom was is = ((rest : List ℕ) × (is ≡ was ++ rest)) ⊎ (was ≡ [])
+
+  extends : (past more all : List Answer) → all ≡ past ++ more → (rest : List ℕ) × (given all ≡ given past ++ rest)
+  extends past more all e = (given more, ap given e ∙ given-append past more)
+
+  none_front : (xs ys : List ℕ) → xs ++ ys ≡ [] → xs ≡ []
+  none_front [] ys e = refl
+  none_front (x ∷ xs) ys e = cc
+
+  wire_extends : (limit : Option ℕ) (kind : Method) (past more answers : List Answer) (wire : List ℕ) (j : Judgement) (c : Code) → answers ≡ past ++ more → (more ≡ [] → ⊥) → EndsBy limit kind answers wire j c
+      → (rest : List ℕ) × (wire ≡ given past ++ rest)
+  wire_extends limit kind past more answers wire j c n some (by_bytes earlier piece e w h is) = let x = extends past more answers n in (x.0, w ∙ x.1)
+  wire_extends limit kind past more answers wire j c n some (by_end earlier e w h is) = let x = extends past more answers n in (x.0, w ∙ x.1)
+  wire_extends limit kind past more answers wire j c n some (by_fault earlier last e w m is) = let x = extends past more answers n in (x.0, w ∙ x.1)
+  wire_extends limit kind past more answers wire j c n some (by_memory earlier last e h w m) =
+      let r = before_last past more earlier last some (sym n ∙ e.0) in
+      let x = extends past r.0 earlier r.1 in
+      (x.0, w ∙ x.1)
+
+  exchanged_grows : (mid new : ExchangeState L) (how : How) → Exchanged history mid new how → GrowsFrom (given mid.answers) (wire_by new how)
+  exchanged_grows mid new how (unserved none e) = inl ([], ap (λ (x : ExchangeState L). given x.answers) e ∙ sym (append-nil (given mid.answers)))
+  exchanged_grows mid new how (lost last a o m e) =
+      inr (none_front (given mid.answers) (given a.more) (sym (given-append mid.answers a.more) ∙ ap given (sym a.noted) ∙ m.silent))
+  exchanged_grows mid new how (blocked a b g) = inl (extends mid.answers a.more new.answers a.noted)
+  exchanged_grows mid new how (unfinished a b g) = inl (extends mid.answers a.more new.answers a.noted)
+  exchanged_grows mid new how (ended {o} a e r) =
+      inl (wire_extends mid.limit mid.request.method mid.answers a.more new.answers o.wire e.judgement o.code a.noted a.asked e.cause)
+
+  pub Turns-grows : (t new : ExchangeState L) (how : How) → (t.needs_probe ≡ true → t.answers ≡ []) → Turns history t new how → GrowsFrom (given t.answers) (wire_by new how)
+  Turns-grows t new how u (late due is s) = inl ([], s.wire ∙ sym (append-nil (given t.answers)))
+  Turns-grows t new how u (given_up early is s) = inl ([], s.wire ∙ sym (append-nil (given t.answers)))
+  Turns-grows t new how u (paused m still e) = inl ([], ap (λ (x : ExchangeState L). given x.answers) e ∙ sym (append-nil (given t.answers)))
+  Turns-grows t new how u (refused m f) = inr (ap given (u f.needed))
+  Turns-grows t new how u (turned m mid (inl p) x) = subst (λ (y : ExchangeState L). GrowsFrom (given y.answers) (wire_by new how)) p.1 (exchanged_grows mid new how x)
+  Turns-grows t new how u (turned m mid (inr p) x) =
+      subst (λ (l : List Answer). GrowsFrom (given l) (wire_by new how)) (ap (λ (y : ExchangeState L). y.answers) p.after) (exchanged_grows mid new how x)
 
   module _ (t : ExchangeState L) (counts : t.received ≡ capped (length (given t.answers))) where
     counted_on : (mid new : ExchangeState L) (how : How) → mid.received ≡ capped (length (given mid.answers)) → Exchanged history mid new how → mid.received ≤ new.received

@@ -18,14 +18,14 @@ use Rattle.mx_reader.specs.Readers.{IsKept, may_keep}
 use Rattle.mx_link.specs.Answers.{given, given_by}
 use Rattle.mx_link.specs.declared.answers.Answer.{Answer}
 use Rattle.mx_link.specs.declared.answers.Answer.TheVariants as said
-use Rattle.mx_exchange.specs.Endings.{EndsBy, by_bytes, by_end, by_fault, by_memory, Ends, HasMore, IsUndecided, code_of, fault_code, is_stop_code}
+use Rattle.mx_line.specs.Endings.{EndsBy, by_bytes, by_end, by_fault, by_memory, Ends, HasMore, IsUndecided, code_of, fault_code, is_stop_code}
 use Rattle.mx_exchange.specs.Exchanges.{HopValue}
 use Rattle.mx_exchange.specs.Hops.{IsHop, IsWhole, HasBody, HasContent, IsFront, is_exchange_code, is_hop_code}
 use Rattle.mx_head.specs.Limits.{most_bytes}
-use Rattle.mx_exchange.specs.Order.{InOrder}
+use Rattle.mx_line.specs.Order.{InOrder}
 use Rattle.mx_exchange.specs.Exchanges.{capped, most_received}
-use Rattle.mx_exchange.proofs.Judged.{none_held}
-use Rattle.mx_exchange.proofs.Ordered.{given-push, given-same, FollowInOrder-last}
+use Rattle.mx_line.proofs.Judged.{none_held}
+use Rattle.mx_line.proofs.Ordered.{given-push, given-same, FollowInOrder-last}
 
 -- the code of a whole response is 0, and no other's is
 complete_of : CodesAreListed → (limit : Option ℕ) (kind : Method) (wire : List ℕ) (e : Bool) (j : Judgement) (c : Code) → Judges limit kind wire e j → code_of j.stand ≡ Some c → c ≡ code.Ok
@@ -62,13 +62,16 @@ decided law limit kind answers wire j c (by_end earlier e w h is) ok = (true, h,
 decided law limit kind answers wire j c (by_fault earlier last e w m is) ok = absurd (faulted last c is ok)
 decided law limit kind answers wire j c (by_memory earlier last e h w m) ok = cc
 
-unstopped : (c : Code) → is_stop_code c ≡ true → c ≡ code.Ok → ⊥
-unstopped c listed ok = let x : is_stop_code code.Ok ≡ true = ap is_stop_code (sym ok) ∙ listed in cc
+unstopped : (c : Code) (limit : Option ℕ) → is_stop_code c limit ≡ true → c ≡ code.Ok → ⊥
+unstopped c limit listed ok =
+    let x : is_stop_code code.Ok limit ≡ true = ap (λ (k : Code). is_stop_code k limit) (sym ok) ∙ listed in
+    let bad : false ≡ true = x in
+    cc
 
 ends_decided : CodesAreListed → (limit : Option ℕ) (kind : Method) (reused : Bool) (answers : List Answer) (wire : List ℕ) (j : Judgement) (c : Code)
     → Ends limit kind reused answers wire j c → c ≡ code.Ok → Decided limit kind wire j
 ends_decided law limit kind reused answers wire j c (inl e) ok = decided law limit kind answers wire j c e.0 ok
-ends_decided law limit kind reused answers wire j c (inr s) ok = absurd (unstopped c s.listed ok)
+ends_decided law limit kind reused answers wire j c (inr s) ok = absurd (unstopped c limit s.listed ok)
 
 pub whole_of : CodesAreListed → (o : HopValue) → IsHop o → o.code ≡ code.Ok → IsWhole o
 whole_of law o h ok =
@@ -212,61 +215,62 @@ all_of_outcome o h other = all h.ends where
   all (inr s) = s.wire_is
 
 -- the codes
-of_verdict : (c : Code) → is_verdict_code c ≡ true → is_hop_code c ≡ true
-of_verdict c is = ap (λ (b : Bool). b || is_exchange_code c) is
+of_verdict : (c : Code) (limit : Option ℕ) → is_verdict_code c ≡ true → is_hop_code c limit ≡ true
+of_verdict c limit is = ap (λ (b : Bool). b || is_exchange_code c limit) is
 
-of_exchange : (c : Code) → is_exchange_code c ≡ true → is_hop_code c ≡ true
-of_exchange c is = ap (λ (b : Bool). is_verdict_code c || b) is ∙ elim (is_verdict_code c) as (λ v. (v || true) ≡ true) [ true ↦ refl | false ↦ refl ]
+of_exchange : (c : Code) (limit : Option ℕ) → is_exchange_code c limit ≡ true → is_hop_code c limit ≡ true
+of_exchange c limit is = ap (λ (b : Bool). is_verdict_code c || b) is ∙ elim (is_verdict_code c) as (λ v. (v || true) ≡ true) [ true ↦ refl | false ↦ refl ]
 
-code_listed : CodesAreListed → (limit : Option ℕ) (kind : Method) (wire : List ℕ) (e : Bool) (j : Judgement) (c : Code) → Judges limit kind wire e j → code_of j.stand ≡ Some c → is_hop_code c ≡ true
+code_listed : CodesAreListed → (limit : Option ℕ) (kind : Method) (wire : List ℕ) (e : Bool) (j : Judgement) (c : Code) → Judges limit kind wire e j → code_of j.stand ≡ Some c → is_hop_code c limit ≡ true
 code_listed law limit kind wire e j c h is = by_stand j.stand refl is where
-  by_stand : (s : Stand) → j.stand ≡ s → code_of s ≡ Some c → is_hop_code c ≡ true
-  by_stand stand.Complete at is = (let same : code.Ok ≡ c = (let k : Some code.Ok ≡ Some c = is in cc) in subst (λ (k : Code). is_hop_code k ≡ true) same refl)
+  by_stand : (s : Stand) → j.stand ≡ s → code_of s ≡ Some c → is_hop_code c limit ≡ true
+  by_stand stand.Complete at is = (let same : code.Ok ≡ c = (let k : Some code.Ok ≡ Some c = is in cc) in subst (λ (k : Code). is_hop_code k limit ≡ true) same refl)
   by_stand stand.More at is = let x : None ≡ Some c = is in cc
   by_stand (stand.Fault f) at is =
-      let same : f ≡ c = (let k : Some f ≡ Some c = is in cc) in subst (λ (k : Code). is_hop_code k ≡ true) same (of_verdict f (subst HasVerdictCode at (law limit kind wire e j h)))
+      let same : f ≡ c = (let k : Some f ≡ Some c = is in cc) in subst (λ (k : Code). is_hop_code k limit ≡ true) same (of_verdict f limit (subst HasVerdictCode at (law limit kind wire e j h)))
 
-fault_is_listed : (last : Answer) (c : Code) → fault_code last ≡ Some c → is_hop_code c ≡ true
-fault_is_listed said.Connected c e = let x : None ≡ Some c = e in cc
-fault_is_listed said.ConnectBlocked c e = let x : None ≡ Some c = e in cc
-fault_is_listed said.ConnectFailed c e = let same : code.CouldntConnect ≡ c = (let k : Some code.CouldntConnect ≡ Some c = e in cc) in subst (λ (k : Code). is_hop_code k ≡ true) same refl
-fault_is_listed (said.Gave piece) c e = let x : None ≡ Some c = e in cc
-fault_is_listed said.ReadBlocked c e = let x : None ≡ Some c = e in cc
-fault_is_listed said.ReadEnded c e = let x : None ≡ Some c = e in cc
-fault_is_listed said.ReadFailed c e = let same : code.RecvError ≡ c = (let k : Some code.RecvError ≡ Some c = e in cc) in subst (λ (k : Code). is_hop_code k ≡ true) same refl
-fault_is_listed (said.Took piece) c e = let x : None ≡ Some c = e in cc
-fault_is_listed said.WriteBlocked c e = let x : None ≡ Some c = e in cc
-fault_is_listed said.WriteFailed c e = let same : code.SendError ≡ c = (let k : Some code.SendError ≡ Some c = e in cc) in subst (λ (k : Code). is_hop_code k ≡ true) same refl
+fault_is_listed : (last : Answer) (c : Code) (limit : Option ℕ) → fault_code last ≡ Some c → is_hop_code c limit ≡ true
+fault_is_listed said.Connected c limit e = let x : None ≡ Some c = e in cc
+fault_is_listed said.ConnectBlocked c limit e = let x : None ≡ Some c = e in cc
+fault_is_listed said.ConnectFailed c limit e = let same : code.CouldntConnect ≡ c = (let k : Some code.CouldntConnect ≡ Some c = e in cc) in subst (λ (k : Code). is_hop_code k limit ≡ true) same refl
+fault_is_listed (said.Gave piece) c limit e = let x : None ≡ Some c = e in cc
+fault_is_listed said.ReadBlocked c limit e = let x : None ≡ Some c = e in cc
+fault_is_listed said.ReadEnded c limit e = let x : None ≡ Some c = e in cc
+fault_is_listed said.ReadFailed c limit e = let same : code.RecvError ≡ c = (let k : Some code.RecvError ≡ Some c = e in cc) in subst (λ (k : Code). is_hop_code k limit ≡ true) same refl
+fault_is_listed (said.Took piece) c limit e = let x : None ≡ Some c = e in cc
+fault_is_listed said.WriteBlocked c limit e = let x : None ≡ Some c = e in cc
+fault_is_listed said.WriteFailed c limit e = let same : code.SendError ≡ c = (let k : Some code.SendError ≡ Some c = e in cc) in subst (λ (k : Code). is_hop_code k limit ≡ true) same refl
 
-by_listed : CodesAreListed → (limit : Option ℕ) (kind : Method) (answers : List Answer) (wire : List ℕ) (j : Judgement) (c : Code) → EndsBy limit kind answers wire j c → is_hop_code c ≡ true
+by_listed : CodesAreListed → (limit : Option ℕ) (kind : Method) (answers : List Answer) (wire : List ℕ) (j : Judgement) (c : Code) → EndsBy limit kind answers wire j c → is_hop_code c limit ≡ true
 by_listed law limit kind answers wire j c (by_bytes earlier piece e w h is) = code_listed law limit kind wire false j c h is
 by_listed law limit kind answers wire j c (by_end earlier e w h is) = code_listed law limit kind wire true j c h is
-by_listed law limit kind answers wire j c (by_fault earlier last e w m is) = fault_is_listed last c is
+by_listed law limit kind answers wire j c (by_fault earlier last e w m is) = fault_is_listed last c limit is
 by_listed law limit kind answers wire j c (by_memory earlier last e h w m) = refl
 
-stop_listed : (c : Code) → is_stop_code c ≡ true → is_exchange_code c ≡ true
-stop_listed code.Ok is = let x : false ≡ true = is in cc
-stop_listed code.UnsupportedProtocol is = let x : false ≡ true = is in cc
-stop_listed code.UrlMalformat is = let x : false ≡ true = is in cc
-stop_listed code.CouldntResolveHost is = refl
-stop_listed code.CouldntConnect is = refl
-stop_listed code.WeirdServerReply is = let x : false ≡ true = is in cc
-stop_listed code.PartialFile is = let x : false ≡ true = is in cc
-stop_listed code.OutOfMemory is = refl
-stop_listed code.OperationTimedout is = refl
-stop_listed code.TooManyRedirects is = let x : false ≡ true = is in cc
-stop_listed code.GotNothing is = let x : false ≡ true = is in cc
-stop_listed code.SendError is = let x : false ≡ true = is in cc
-stop_listed code.RecvError is = let x : false ≡ true = is in cc
-stop_listed code.BadContentEncoding is = let x : false ≡ true = is in cc
-stop_listed code.FilesizeExceeded is = let x : false ≡ true = is in cc
-stop_listed code.TooLarge is = let x : false ≡ true = is in cc
+stop_listed : (c : Code) (limit : Option ℕ) → is_stop_code c limit ≡ true → is_exchange_code c limit ≡ true
+stop_listed code.Ok limit is = let x : false ≡ true = is in cc
+stop_listed code.UnsupportedProtocol limit is = let x : false ≡ true = is in cc
+stop_listed code.UrlMalformat limit is = let x : false ≡ true = is in cc
+stop_listed code.CouldntResolveHost limit is = refl
+stop_listed code.CouldntConnect limit is = refl
+stop_listed code.WeirdServerReply limit is = let x : false ≡ true = is in cc
+stop_listed code.PartialFile limit is = let x : false ≡ true = is in cc
+stop_listed code.WriteError limit is = is
+stop_listed code.OutOfMemory limit is = refl
+stop_listed code.OperationTimedout limit is = refl
+stop_listed code.TooManyRedirects limit is = let x : false ≡ true = is in cc
+stop_listed code.GotNothing limit is = let x : false ≡ true = is in cc
+stop_listed code.SendError limit is = let x : false ≡ true = is in cc
+stop_listed code.RecvError limit is = let x : false ≡ true = is in cc
+stop_listed code.BadContentEncoding limit is = let x : false ≡ true = is in cc
+stop_listed code.FilesizeExceeded limit is = let x : false ≡ true = is in cc
+stop_listed code.TooLarge limit is = let x : false ≡ true = is in cc
 
-pub outcome_listed : CodesAreListed → (o : HopValue) → IsHop o → is_hop_code o.code ≡ true
+pub outcome_listed : CodesAreListed → (o : HopValue) → IsHop o → is_hop_code o.code o.limit ≡ true
 outcome_listed law o h = listed h.ends where
-  listed : Ends o.limit o.request.method o.is_reused o.answers o.wire h.judgement o.code → is_hop_code o.code ≡ true
+  listed : Ends o.limit o.request.method o.is_reused o.answers o.wire h.judgement o.code → is_hop_code o.code o.limit ≡ true
   listed (inl e) = by_listed law o.limit o.request.method o.answers o.wire h.judgement o.code e.0
-  listed (inr s) = of_exchange o.code (stop_listed o.code s.listed)
+  listed (inr s) = of_exchange o.code o.limit (stop_listed o.code o.limit s.listed)
 
 -- how much came, where it is held
 few : (limit : Option ℕ) (kind : Method) (answers : List Answer) → limit ≡ None → IsUndecided limit kind answers → length (given answers) ≤ most_bytes

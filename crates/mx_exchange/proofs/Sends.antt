@@ -9,8 +9,8 @@ use Rattle.std.specs.contracts.option.Option as Option
 use Rattle.mx_request.proofs.request.Request.TheSendSync.{the_send as request_send}
 use Rattle.mx_link.specs.declared.links.Link as link
 use Rattle.mx_reader.proofs.Sends.{reader_send}
-use Rattle.mx_exchange.specs.contracts.lines.Line as Line
-use Rattle.mx_exchange.specs.contracts.lines.Line.TheInside as LineInside
+use Rattle.mx_line.specs.contracts.lines.Line as Line
+use Rattle.mx_line.proofs.Sends.{line_send}
 use Rattle.mx_exchange.specs.contracts.exchanges.stages.Live as Live
 use Rattle.mx_exchange.specs.contracts.exchanges.stages.Ended as Ended
 use Rattle.mx_exchange.specs.contracts.exchanges.stages.Stage as Stage
@@ -25,14 +25,6 @@ hop_inside = struct_send (shape HopInside.the_type) (request_send, (search (send
 pub hop_send : IsSend Hop.the_row
 hop_send =
     let a = hop_inside in
-    search (sendable) depth 40 fits 20000
-
-line_inside : (L : RattleType) (g : link.Ghosts L.Denot) → IsSend L → IsSend (LineInside.the_field L g).row
-line_inside L g s = struct_send (shape (LineInside.the_type L g)) (search (sendable, crosses) depth 40, (search (sendable, crosses) depth 40, (search (sendable, crosses) depth 40, (search (sendable, crosses) depth 40, (search (sendable, crosses) depth 40, (search (sendable, crosses) depth 40, (search (sendable, crosses) depth 40, (search (sendable, crosses) depth 40, (search (sendable, crosses) depth 40, tt)))))))))
-
-line_send : (L : RattleType) (g : link.Ghosts L.Denot) → IsSend L → IsSend (Line.the_row L g)
-line_send L g s =
-    let a = line_inside L g s in
     search (sendable) depth 40 fits 20000
 
 opt_line : (L : RattleType) (g : link.Ghosts L.Denot) → IsSend L → IsSend (Option.the_field (Line.the_row L g)).row

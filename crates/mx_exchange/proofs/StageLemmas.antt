@@ -1,21 +1,23 @@
 -- What stays known of a stage.
-use Rattle.std.proofs.Common.{◌≡◌, ◌∙◌, ℕ, Bool, true, List, [], length, ap, Option, Some, None, refl}
-use Rattle.mx_types.specs.Code.{is_link_code}
+use Rattle.std.proofs.Common.{◌≡◌, ◌∙◌, ℕ, Bool, true, false, List, [], length, ap, sym, Option, Some, None, refl}
 use Rattle.mx_types.specs.declared.code.Code.{Code}
 use Rattle.mx_types.specs.declared.code.Code.TheVariants as code
 use Rattle.mx_request.specs.Request.{RequestValue}
 use Rattle.mx_link.specs.declared.answers.Answer.{Answer}
-use Rattle.mx_exchange.specs.Endings.{is_stop_code}
-use Rattle.mx_exchange.specs.Lines.{LineState}
+use Rattle.mx_line.specs.Endings.{is_given_code, is_stop_code}
+use Rattle.mx_line.specs.Lines.{LineState}
 use Rattle.mx_exchange.specs.Exchanges.{ExchangeState, capped, dropped}
 use Rattle.mx_exchange.specs.Stages.{alive, link_of, line_of, IsServing, IsStage}
 use Rattle.mx_exchange.specs.declared.exchanges.stages.Live.{Live}
 use Rattle.mx_exchange.specs.declared.exchanges.stages.Stage.{Stage}
 use Rattle.mx_exchange.specs.declared.exchanges.stages.Stage.TheVariants as stage
-use Rattle.std.specs.Prelude.{IfSome}
+use Rattle.std.specs.Prelude.{IfSome, is_some, ◌&&◌}
+use Rattle.mx_request.specs.Redirects.{is_redirect_status}
+use Rattle.mx_body.specs.Decision.{bytes_at}
+use Rattle.mx_body.specs.declared.part.Part.{Part}
 
 module _ {L : Type 0} (history : L → List Answer) (asked : L → List ℕ) (token_of : L → ℕ) (request : RequestValue) (limit : Option ℕ) (failure : Option Code) where
-  no_line : (fresh more : Bool) (line : Option (LineState L)) → link_of line ≡ None → IfSome line (IsServing history asked token_of request more failure)
+  no_line : (fresh more : Bool) (line : Option (LineState L)) → link_of line ≡ None → IfSome line (IsServing history asked token_of request limit more failure)
   no_line fresh more None e = tt
   no_line fresh more (Some l) e = cc
 
@@ -31,21 +33,35 @@ dropped_by t o wire content =
     ap (λ (w : List ℕ). record (dropped (alive t o)) { received = capped (length w); content = o.reader.judgement.content }) wire
     ∙ ap (λ (w : List ℕ). record (dropped (alive t o)) { content = w }) content
 
--- a code given in place of a link may end the exchange
-pub link_stops : (c : Code) → is_link_code c ≡ true → is_stop_code c ≡ true
-link_stops code.Ok is = is
-link_stops code.UnsupportedProtocol is = is
-link_stops code.UrlMalformat is = is
-link_stops code.CouldntResolveHost is = is
-link_stops code.CouldntConnect is = is
-link_stops code.WeirdServerReply is = is
-link_stops code.PartialFile is = is
-link_stops code.OutOfMemory is = is
-link_stops code.OperationTimedout is = refl
-link_stops code.TooManyRedirects is = is
-link_stops code.GotNothing is = is
-link_stops code.SendError is = is
-link_stops code.RecvError is = is
-link_stops code.BadContentEncoding is = is
-link_stops code.FilesizeExceeded is = is
-link_stops code.TooLarge is = is
+-- a code that was given may end the exchange
+pub given_stops : (c : Code) (limit : Option ℕ) → is_given_code c limit ≡ true → is_stop_code c limit ≡ true
+given_stops code.Ok limit is = is
+given_stops code.UnsupportedProtocol limit is = is
+given_stops code.UrlMalformat limit is = is
+given_stops code.CouldntResolveHost limit is = is
+given_stops code.CouldntConnect limit is = is
+given_stops code.WeirdServerReply limit is = is
+given_stops code.PartialFile limit is = is
+given_stops code.WriteError limit is = is
+given_stops code.OutOfMemory limit is = is
+given_stops code.OperationTimedout limit is = refl
+given_stops code.TooManyRedirects limit is = is
+given_stops code.GotNothing limit is = is
+given_stops code.SendError limit is = is
+given_stops code.RecvError limit is = is
+given_stops code.BadContentEncoding limit is = is
+given_stops code.FilesizeExceeded limit is = is
+given_stops code.TooLarge limit is = is
+
+located : (kept : List ℕ) (place : Option Part) → is_some (bytes_at kept place) ≡ is_some place
+located kept None = refl
+located kept (Some p) = refl
+
+-- a head sends its request on where its status does and it has a location
+pub sends_then : (status : ℕ) (kept : List ℕ) (place : Option Part) (redirects some : Bool) → redirects ≡ is_redirect_status status → redirects ≡ true → some ≡ is_some place
+    → some ≡ (is_redirect_status status && is_some (bytes_at kept place))
+sends_then status kept place redirects some is so has = has ∙ sym (located kept place) ∙ ap (λ (b : Bool). b && is_some (bytes_at kept place)) (sym so ∙ is)
+
+pub sends_else : (status : ℕ) (kept : List ℕ) (place : Option Part) (redirects : Bool) → redirects ≡ is_redirect_status status → redirects ≡ false
+    → redirects ≡ (is_redirect_status status && is_some (bytes_at kept place))
+sends_else status kept place redirects is so = so ∙ ap (λ (b : Bool). b && is_some (bytes_at kept place)) (sym so ∙ is)

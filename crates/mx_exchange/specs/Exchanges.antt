@@ -1,16 +1,17 @@
 -- What contracts see of an exchange and of a hop.
-use Rattle.std.specs.Prelude.{◌≡◌, ℕ, ◌≤◌, ◌+◌, ◌-◌, ◌^◌, ◌==◌, min, Bool, true, false, List, [], ◌++◌, length, Option, Some, None, IsSome, IfSome, if◌then◌else◌}
+use Rattle.std.specs.Prelude.{◌≡◌, ℕ, ◌≤◌, ◌+◌, ◌-◌, ◌^◌, ◌==◌, min, Bool, true, false, List, [], ◌++◌, length, ◌&&◌, Option, Some, None, IsSome, IfSome, is_some, if◌then◌else◌}
 use Rattle.mx_types.specs.declared.code.Code.{Code}
 use Rattle.mx_request.specs.Request.{RequestValue}
 use Rattle.mx_types.specs.declared.method.Method.{Method}
+use Rattle.mx_request.specs.Redirects.{is_redirect_status}
+use Rattle.mx_body.specs.Decision.{HasStatus, TellsLocation}
 use Rattle.mx_body.specs.declared.part.Part.{Part}
 use Rattle.mx_reader.specs.Judgements.{Judgement}
 use Rattle.mx_link.specs.Answers.{given}
 use Rattle.mx_link.specs.declared.answers.Answer.{Answer}
 use Rattle.mx_head.specs.Limits.{most_bytes}
-use Rattle.mx_exchange.specs.Order.{InOrder, most_read, asks_of}
-use Rattle.mx_types.specs.Code.{is_link_code}
-use Rattle.mx_exchange.specs.Endings.{IsUndecided, HasMore}
+use Rattle.mx_line.specs.Order.{InOrder, most_read, asks_of}
+use Rattle.mx_line.specs.Endings.{IsUndecided, HasMore, is_given_code}
 
 -- A hop. `limit` is the most bytes of content that were handed on as they came, and nothing where the response is held. The wire are the bytes of
 -- the response, of which memory has those that are `kept`; the parts are where the data of a held body are in the wire, and `content` are those
@@ -166,11 +167,14 @@ pub record IsServed {L : Type 0} (history : L → List Answer) (t : ExchangeStat
 abbrev pub most_received : ℕ
 most_received = most_bytes + most_read
 
--- what one list has grown by was handed on, behind the other
-pub record HandsOver (was is before after : List ℕ) : Type 0 where
-  pub added : List ℕ
-  pub grown : is ≡ was ++ added
-  pub handed : after ≡ before ++ added
+-- whether a final head among the bytes sends its request on: its status is 301, 302, 303, 307 or 308, and the value of its first Location line
+-- isn't empty
+pub record TellsSending (wire : List ℕ) (sends : Bool) : Type 0 where
+  pub status : ℕ
+  pub location : Option (List ℕ)
+  pub has : HasStatus wire status
+  pub tells : TellsLocation wire location
+  pub sends_is : sends ≡ (is_redirect_status status && is_some location)
 
 -- what was handed on is the content among the bytes, of which nothing is decided
 abbrev pub IsHandedOn : Option ℕ → Method → List ℕ → List ℕ → Type 0
@@ -192,7 +196,7 @@ pub record IsExchange {L : Type 0} (history : L → List Answer) (asked : L → 
   pub unprobed : t.needs_probe ≡ true → (t.is_reused ≡ true) × (t.answers ≡ [])
   -- where only a fresh link is wanted, none that was in use before serves
   pub fresh : t.needs_fresh ≡ true → t.is_reused ≡ false
-  -- a code given in place of a link is one of these, and there is no link
-  pub failed : IfSome t.failure (λ c. is_link_code c ≡ true)
-  pub unlinked : IsSome t.failure → t.link ≡ None
+  -- a code that it was given is one of these, and where the response is held there is no link then
+  pub failed : IfSome t.failure (λ c. is_given_code c t.limit ≡ true)
+  pub unlinked : t.limit ≡ None → IsSome t.failure → t.link ≡ None
   pub bounded : t.limit ≡ None → t.received ≤ most_received

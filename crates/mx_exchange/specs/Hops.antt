@@ -1,5 +1,5 @@
 -- What holds of every hop.
-use Rattle.std.specs.Prelude.{◌≡◌, ℕ, ◌≤◌, ◌||◌, Bool, true, false, List, Option, ◌++◌, length, take, drop}
+use Rattle.std.specs.Prelude.{◌≡◌, ℕ, ◌≤◌, ◌||◌, Bool, true, false, List, Option, is_some, ◌++◌, length, take, drop}
 use Rattle.mx_types.specs.declared.code.Code.{Code}
 use Rattle.mx_types.specs.declared.code.Code.TheVariants as code
 use Rattle.mx_request.specs.Request.{RequestValue, IsRequest}
@@ -14,8 +14,8 @@ use Rattle.mx_reader.specs.Laws.{IsWholeResponse}
 use Rattle.mx_reader.specs.Readers.{ReaderValue, IsKept}
 use Rattle.mx_link.specs.Answers.{given}
 use Rattle.mx_link.specs.declared.answers.Answer.{Answer}
-use Rattle.mx_exchange.specs.Order.{InOrder}
-use Rattle.mx_exchange.specs.Endings.{Ends}
+use Rattle.mx_line.specs.Order.{InOrder}
+use Rattle.mx_line.specs.Endings.{Ends}
 use Rattle.mx_exchange.specs.Exchanges.{HopValue}
 
 -- the hop of an exchange whose reader has this, as memory keeps it
@@ -77,20 +77,22 @@ pub record HasContent (o : HopValue) : Type 0 where
 abbrev pub IsFront : HopValue → Type 0
 IsFront o = given o.answers ≡ o.wire ++ drop (length o.wire) (given o.answers)
 
--- the codes of a response, of a link and of memory, and that of a deadline
-abbrev pub is_exchange_code : Code → Bool
-is_exchange_code code.Ok = true
-is_exchange_code code.CouldntResolveHost = true
-is_exchange_code code.CouldntConnect = true
-is_exchange_code code.OutOfMemory = true
-is_exchange_code code.OperationTimedout = true
-is_exchange_code code.SendError = true
-is_exchange_code code.RecvError = true
-is_exchange_code _ = false
+-- the codes of a response, of a link and of memory, and that of a deadline; and where the content is handed on, that of content that couldn't be
+-- written
+abbrev pub is_exchange_code : Code → Option ℕ → Bool
+is_exchange_code code.Ok limit = true
+is_exchange_code code.CouldntResolveHost limit = true
+is_exchange_code code.CouldntConnect limit = true
+is_exchange_code code.WriteError limit = is_some limit
+is_exchange_code code.OutOfMemory limit = true
+is_exchange_code code.OperationTimedout limit = true
+is_exchange_code code.SendError limit = true
+is_exchange_code code.RecvError limit = true
+is_exchange_code _ limit = false
 
 -- the codes that an exchange ends with: these, and those of the bytes of a response
-abbrev pub is_hop_code : Code → Bool
-is_hop_code c = is_verdict_code c || is_exchange_code c
+abbrev pub is_hop_code : Code → Option ℕ → Bool
+is_hop_code c limit = is_verdict_code c || is_exchange_code c limit
 
 -- the code may end the exchange of this request over the link that answered so, with what the reader has
 abbrev pub MayEnd : RequestValue → Bool → List Answer → ReaderValue → Code → Type 0

@@ -1,22 +1,10 @@
--- What holds of every link that serves a request, of every hop, and of every exchange's life.
-use Rattle.std.specs.Prelude.{◌≡◌, ℕ, ◌+◌, ◌≤◌, ◌⊎◌, ◌&&◌, Bool, true, false, List, [], ◌++◌, Some, None, is_some, is_none, if◌then◌else◌}
-use Rattle.std.specs.List.{list_any}
+-- What holds of every hop, and of every exchange's life.
+use Rattle.std.specs.Prelude.{◌≡◌, ℕ, ◌+◌, ◌≤◌, ◌⊎◌, ◌&&◌, Bool, true, false, List, [], Some, None, is_some, is_none, if◌then◌else◌}
 use Rattle.mx_types.specs.declared.code.Code.TheVariants as code
-use Rattle.mx_link.specs.Answers.{taken, is_read}
 use Rattle.mx_link.specs.declared.answers.Answer.{Answer}
-use Rattle.mx_exchange.specs.Order.{InOrder}
 use Rattle.mx_exchange.specs.Exchanges.{HopValue, ExchangeState, clocked}
 use Rattle.mx_exchange.specs.Turns.{How, Turns}
 use Rattle.mx_exchange.specs.Hops.{IsHop, HasBody, HasContent, is_hop_code}
-
--- what was taken is a prefix of the bytes, and all of them once the link was read
-pub record TakesFront (bytes : List ℕ) (answers : List Answer) : Type 0 where
-  pub unsent : List ℕ
-  pub front : bytes ≡ taken answers ++ unsent
-  pub whole : list_any is_read answers ≡ true → unsent ≡ []
-
-abbrev pub TakenIsTheFront : Type 0
-TakenIsTheFront = (reused : Bool) (bytes : List ℕ) (answers : List Answer) → InOrder reused bytes answers → TakesFront bytes answers
 
 -- with code 0 the parts and what was handed on are the content of the response
 abbrev pub OkHasBody : Type 0
@@ -32,7 +20,7 @@ HeldHasAll = (o : HopValue) → IsHop o → o.limit ≡ None → (o.content ≡ 
 
 -- a hop has one of the listed codes
 abbrev pub CodesAreListed : Type 0
-CodesAreListed = (o : HopValue) → IsHop o → is_hop_code o.code ≡ true
+CodesAreListed = (o : HopValue) → IsHop o → is_hop_code o.code o.limit ≡ true
 
 -- whether the link that there was is gone
 abbrev pub drops : {L : Type 0} → ExchangeState L → ExchangeState L → ℕ

@@ -1,9 +1,6 @@
-pub mod Order
-pub mod Endings
 pub mod Exchanges
 pub mod Turns
 pub mod Hops
 pub mod Laws
--- Private: what the private functions of a turn promise one another.
-pub mod Lines
+-- Private: an exchange that goes on, or has ended.
 pub mod Stages

@@ -4,8 +4,8 @@ use Rattle.mx_types.specs.declared.code.Code.{Code}
 use Rattle.mx_types.specs.declared.code.Code.TheVariants as code
 use Rattle.mx_request.specs.Request.{RequestValue}
 use Rattle.mx_link.specs.declared.answers.Answer.{Answer}
-use Rattle.mx_exchange.specs.Lines.{LineState, IsLine, IsGoing, MayHandOut}
-use Rattle.mx_exchange.specs.Endings.{is_stop_code}
+use Rattle.mx_line.specs.Lines.{LineState, IsLine, IsGoing, MayHandOut}
+use Rattle.mx_line.specs.Endings.{is_stop_code}
 use Rattle.mx_exchange.specs.Exchanges.{ExchangeState, IsDue, capped, most_received}
 use Rattle.mx_exchange.specs.Turns.{IsOnTime, MayTouch}
 use Rattle.mx_flow.specs.Streams.{limit_of}
@@ -89,24 +89,24 @@ over t e = record t {
 }
 
 -- What is known of a link that serves: it is one of this request, it isn't stale, and it was never in use where only a fresh one is
--- wanted; no code was given in place of it.
-pub record IsServing {L : Type 0} (history : L → List Answer) (asked : L → List ℕ) (token_of : L → ℕ) (request : RequestValue) (fresh : Bool) (failure : Option Code) (l : LineState L) : Type 0 where
+-- wanted; where the response is held no code was given in place of it.
+pub record IsServing {L : Type 0} (history : L → List Answer) (asked : L → List ℕ) (token_of : L → ℕ) (request : RequestValue) (limit : Option ℕ) (fresh : Bool) (failure : Option Code) (l : LineState L) : Type 0 where
   pub about : l.request ≡ request
   pub current : l.is_stale ≡ false
   pub line : IsLine history asked token_of l
   pub unreused : fresh ≡ true → l.is_reused ≡ false
-  pub wanted : failure ≡ None
+  pub wanted : limit ≡ None → failure ≡ None
 
 -- what is known of an exchange that goes on
 pub record IsAlive {L : Type 0} (history : L → List Answer) (asked : L → List ℕ) (token_of : L → ℕ) (request : RequestValue) (limit : Option ℕ) (fresh : Bool) (failure : Option Code) (o : Live L) : Type 0 where
   pub about : o.request ≡ request
   pub limit_is : o.reader.limit ≡ limit
   pub going : IsGoing request.method (answers_of o.line) o.reader
-  pub serves : IfSome o.line (IsServing history asked token_of request fresh failure)
+  pub serves : IfSome o.line (IsServing history asked token_of request limit fresh failure)
 
 -- what is known of one that has ended
 pub record IsEnded {L : Type 0} (history : L → List Answer) (asked : L → List ℕ) (token_of : L → ℕ) (request : RequestValue) (limit : Option ℕ) (fresh : Bool) (failure : Option Code) (e : Ended L) : Type 0 where
-  pub serves : IfSome e.line (IsServing history asked token_of request fresh failure)
+  pub serves : IfSome e.line (IsServing history asked token_of request limit fresh failure)
   pub kept : e.is_kept ≡ true → IfSome e.line MayHandOut
   pub bounded : limit ≡ None → e.received ≤ most_received
 
@@ -118,6 +118,6 @@ IsStage history asked token_of request limit fresh failure (stage.Ended e) = IsE
 abbrev pub ComesBefore : {L : Type 0} → ExchangeState L → Before → Type 0
 ComesBefore t (before.Stops c) =
     ((IsDue t.deadline t.moment × (c ≡ code.OperationTimedout)) ⊎ (¬ (IsDue t.deadline t.moment) × (t.failure ≡ Some c)))
-    × (is_stop_code c ≡ true)
+    × (is_stop_code c t.limit ≡ true)
 ComesBefore t before.Pauses = IsOnTime t × (t.is_paused ≡ true)
 ComesBefore t before.Nothing = MayTouch t

@@ -1,5 +1,5 @@
 -- What one turn of an exchange does.
-use Rattle.std.specs.Prelude.{◌≡◌, ◌≢◌, ℕ, ◌≤◌, Bool, true, false, List, [], ◌∷◌, ◌++◌, length, Some, None, ◌⊎◌, count_by}
+use Rattle.std.specs.Prelude.{◌≡◌, ◌≢◌, ℕ, ◌≤◌, Bool, true, false, List, [], ◌∷◌, ◌++◌, length, Option, Some, None, ◌⊎◌, count_by}
 use Rattle.mx_types.specs.declared.code.Code.TheVariants as code
 use Rattle.mx_body.specs.Decision.{HasStatus}
 use Rattle.mx_reader.specs.Judgements.{Judgement}
@@ -9,8 +9,8 @@ use Rattle.mx_link.specs.declared.answers.Answer.{Answer}
 use Rattle.mx_link.specs.declared.answers.Answer.TheVariants as said
 use Rattle.mx_exchange.specs.declared.exchanges.turns.Turned.{Turned}
 use Rattle.mx_exchange.specs.declared.exchanges.turns.Turned.TheVariants as went
-use Rattle.mx_exchange.specs.Order.{InOrder, most_turn_reads, most_turn_writes}
-use Rattle.mx_exchange.specs.Endings.{EndsBy, MustRetry}
+use Rattle.mx_line.specs.Order.{InOrder, most_turn_writes}
+use Rattle.mx_line.specs.Endings.{EndsBy, MustRetry}
 use Rattle.mx_exchange.specs.Exchanges.{HopValue, ExchangeState, IsDue, LinkTold, capped, dropped}
 
 -- no deadline has come, and no code was given in place of a link
@@ -51,8 +51,14 @@ pub record ProbeFails {L : Type 0} (history : L → List Answer) (t new : Exchan
 abbrev pub Probed : {L : Type 0} → (L → List Answer) → ExchangeState L → ExchangeState L → Type 0
 Probed history t mid = ((t.needs_probe ≡ false) × (mid ≡ t)) ⊎ ProbeBlocks history t mid
 
--- rule exchange-turn-limits: A turn makes at most one connect, 64 writes and 64 reads, and then asks for another.
+-- rule exchange-turn-limits: A turn makes at most one connect, 64 writes and 64 reads, and then asks for another. Where the content is handed
+-- on it makes at most 16 reads, so that what a turn hands on has at most 262,144 bytes.
 --
+-- the most reads of one turn, by the limit of the content that is handed on
+abbrev pub most_turn_reads : Option ℕ → ℕ
+most_turn_reads None = 64
+most_turn_reads (Some limit) = 16
+
 -- what the link answered in this turn, and how much it was asked at most
 pub record Answered {L : Type 0} (history : L → List Answer) (t new : ExchangeState L) : Type 0 where
   pub more : List Answer
@@ -61,7 +67,7 @@ pub record Answered {L : Type 0} (history : L → List Answer) (t new : Exchange
   pub told : LinkTold history t.link new.link more
   pub served : t.link ≢ None
   pub connects : count_by is_connect more ≤ 1
-  pub reads : count_by is_read more ≤ most_turn_reads
+  pub reads : count_by is_read more ≤ most_turn_reads t.limit
   pub writes : count_by is_write more ≤ most_turn_writes
 
 -- only the link, its answers and what was handed on of them have changed, and the bytes received are those that it gave
@@ -122,7 +128,7 @@ pub data Exchanged {L : Type 0} (history : L → List Answer) (t new : ExchangeS
   lost : (last : ExchangeState L) → Answered history t last → InOrder t.is_reused t.request.bytes last.answers
       → MustRetry t.request.method t.is_reused last.answers → new ≡ dropped t → Exchanged history t new waits
   blocked : (a : Answered history t new) → EndsBlocked a.more → GoesOn t new → Exchanged history t new waits
-  unfinished : (a : Answered history t new) → (count_by is_read a.more ≡ most_turn_reads) ⊎ (count_by is_write a.more ≡ most_turn_writes)
+  unfinished : (a : Answered history t new) → (count_by is_read a.more ≡ most_turn_reads t.limit) ⊎ (count_by is_write a.more ≡ most_turn_writes)
       → GoesOn t new → Exchanged history t new asks
   ended : {o : HopValue} → Answered history t new → EndsOver t new o
       → ¬ (MustRetry t.request.method t.is_reused new.answers) → Exchanged history t new (ends o)
@@ -149,6 +155,11 @@ how_of (went.Ended o) = ends o
 abbrev pub content_by : {L : Type 0} → ExchangeState L → How → List ℕ
 content_by new (ends o) = o.content
 content_by new _ = new.content
+
+-- the bytes of the response so far: the hop has them, where the turn ended it
+abbrev pub wire_by : {L : Type 0} → ExchangeState L → How → List ℕ
+wire_by new (ends o) = o.wire
+wire_by new _ = given new.answers
 
 -- this holds for the hop, where the turn ended it
 abbrev pub IfEnded : Turned → (HopValue → Type 0) → Type 0

@@ -1,7 +1,8 @@
 //! What becomes of the body of a response.
-ghost use Rattle.std.specs.Prelude.{◌≡◌};
+ghost use Rattle.std.specs.Prelude.{◌≡◌, ◌<◌, ◌≤◌};
 ghost use Rattle.mx_reader.specs.Readers.{IsReader, first_reader};
 ghost use Rattle.mx_exchange.specs.Stages.{limit_by};
+ghost use Rattle.mx_exchange.specs.Turns.{most_turn_reads};
 
 use mx_reader::Reader;
 use mx_types::Method;
@@ -25,6 +26,18 @@ impl Delivery {
         match self {
             Delivery::Held => Reader::holding(alloc, method),
             Delivery::Flowing(most_bytes) => Reader::flowing(alloc, method, most_bytes),
+        }
+    }
+    // rule exchange-turn-limits
+    /// The most reads of one turn.
+    pub(crate) fn most_reads(self) -> usize
+        ensures most { result ≡ most_turn_reads (limit_by self) }
+        ensures some { 0 < result }
+        ensures few { result ≤ 64 }
+    {
+        match self {
+            Delivery::Held => 64,
+            Delivery::Flowing(_) => 16,
         }
     }
 }

@@ -1,6 +1,8 @@
 //! One request over a link, and after its end another one.
-ghost use Rattle.std.specs.Prelude.{◌≡◌, true, false, [], Some, None, IsSome, IfSome, is_some, option_map, ◌↔◌, if◌then◌else◌};
-ghost use Rattle.mx_exchange.specs.Exchanges.{IsExchange, WantsLink, begun, attached, renewed};
+ghost use Rattle.std.specs.Prelude.{◌≡◌, ◌≢◌, true, false, [], Some, None, IsSome, IfSome, is_some, option_map, ◌↔◌, if◌then◌else◌};
+ghost use Rattle.mx_link.specs.Answers.{given};
+ghost use Rattle.mx_line.specs.Endings.{is_given_code};
+ghost use Rattle.mx_exchange.specs.Exchanges.{IsExchange, TellsSending, WantsLink, begun, attached, renewed};
 ghost use Rattle.mx_types.specs.Code.{is_link_code};
 ghost use Rattle.mx_exchange.specs.Stages.{limit_by};
 ghost use Rattle.mx_flow.specs.Streams.{limit_of};
@@ -8,12 +10,11 @@ ghost use Rattle.mx_flow.specs.Streams.{limit_of};
 mod stages;
 pub(crate) mod turns;
 
-use crate::buffers::ReadBuffer;
 use crate::delivery::Delivery;
 use crate::exchanges::stages::{Live, Stage, received};
-use crate::lines::Line;
+use mx_line::{Line, ReadBuffer};
 use mx_link::Link;
-use mx_request::{Endpoint, Request};
+use mx_request::{Endpoint, Request, is_redirect};
 use mx_types::Code;
 use std::alloc::Global;
 use std::marker::Model;
@@ -70,7 +71,7 @@ impl<L: Link> Drop for Exchange<L> {
 
 impl<L: Link> Model for Exchange<L> {
     ghost use Rattle.std.specs.Prelude.{◌≡◌, true, IfSome};
-    ghost use Rattle.mx_types.specs.Code.{is_link_code};
+    ghost use Rattle.mx_line.specs.Endings.{is_given_code};
     ghost use Rattle.mx_exchange.specs.Exchanges.{ExchangeState};
     ghost use Rattle.mx_exchange.specs.Stages.{limit_by, link_of, attached_of, answers_of, reused_of, probe_of, line_of, code_of, kept_of, received_of, content_of, IsStage};
 
@@ -99,7 +100,7 @@ impl<L: Link> Model for Exchange<L> {
 
     ghost invariant = { λ t. record {
       stage : IsStage L.history L.asked L.token_of t.about.value (limit_by t.delivery) t.needs_fresh t.failure t.stage;
-      failed : IfSome t.failure (λ c. is_link_code c ≡ true);
+      failed : IfSome t.failure (λ c. is_given_code c (limit_by t.delivery) ≡ true);
     } };
 }
 
@@ -227,6 +228,17 @@ impl<L: Link> Exchange<L> {
         self.failure = Some(code);
     }
 
+    /// Gives the code that it ends with at its next turn, as what takes the content can't go on. Its link is asked nothing more, and isn't
+    /// kept.
+    pub fn fail(&mut self, reason: Code)
+        requires going { self.old.code ≡ None }
+        requires flowing { self.old.limit ≢ None }
+        requires reason { is_given_code reason self.old.limit ≡ true }
+        ensures { self.new ≡ record self.old { failure = Some reason } }
+    {
+        self.failure = Some(reason);
+    }
+
     /// Gives the buffer of its reads, and takes this one in its place, as who lends one does before a turn and after it.
     pub fn swap_buffer(&mut self, other: &mut ReadBuffer)
         ensures { self.new ≡ self.old }
@@ -288,6 +300,21 @@ impl<L: Link> Exchange<L> {
     {
         // proof: what holds of an exchange
         let _stage = &self.stage;
+    }
+
+    /// Whether a final head has come that sends its request on (RFC 9110, section 15.4), of one that has not ended.
+    pub fn sends_on(&self) -> bool
+        requires { self.now.code ≡ None }
+        ensures { TellsSending (given self.now.answers) result }
+    {
+        match &self.stage {
+            Stage::Live(live) => {
+                let status = live.reader.status();
+                let location = live.reader.location();
+                is_redirect(status) && location.is_some()
+            }
+            Stage::Ended(_) => unreachable!(),
+        }
     }
 
     /// Whether it has ended.

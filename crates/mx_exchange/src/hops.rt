@@ -1,12 +1,13 @@
 //! What an exchange ends with.
-ghost use Rattle.std.specs.Prelude.{◌≡◌, ◌≢◌, ◌<◌, ◌↔◌, ◌+◌, ◌^◌, ℕ, true, length, take, slice_range, Some, None, IsSome, IfSome, IfOk, option_copied};
+ghost use Rattle.std.specs.Prelude.{◌≡◌, ◌≢◌, ◌<◌, ◌↔◌, ◌+◌, ◌^◌, ℕ, true, length, take, slice_range, Some, None, ◌&&◌, IsSome, IfSome, IfOk, is_some, option_copied};
 ghost use Rattle.std.specs.List.{slice_get};
+ghost use Rattle.mx_request.specs.Redirects.{is_redirect_status};
 ghost use Rattle.mx_body.specs.declared.part.Part.{Part};
 ghost use Rattle.mx_body.specs.Parts.{AreOrdered, joined};
 ghost use Rattle.mx_reader.specs.Readers.{IsKept};
 ghost use Rattle.mx_body.specs.Decision.{HasStatus, TellsLocation, IsPlaceIn};
 ghost use Rattle.mx_link.specs.Answers.{given};
-ghost use Rattle.mx_exchange.specs.Order.{InOrder};
+ghost use Rattle.mx_line.specs.Order.{InOrder};
 ghost use Rattle.mx_exchange.specs.Hops.{IsHop, IsWhole, HasBody, HasContent, IsFront, hop_of, is_hop_code};
 ghost use Rattle.mx_types.specs.declared.code.Code.TheVariants as code;
 
@@ -14,7 +15,7 @@ use crate::laws;
 use mx_body::Part as BodyPart;
 use mx_link::Answer;
 use mx_reader::Reader;
-use mx_request::Request;
+use mx_request::{Request, is_redirect};
 use mx_types::{Code, History, OutOfMemory};
 use std::alloc::Global;
 use std::marker::Model;
@@ -139,7 +140,7 @@ impl Hop {
         ensures whole { result ≡ code.Ok → IsWhole self.now }
         ensures body { result ≡ code.Ok → HasBody self.now }
         ensures content { result ≡ code.Ok → self.now.limit ≡ None → HasContent self.now }
-        ensures listed { is_hop_code result ≡ true }
+        ensures listed { is_hop_code result self.now.limit ≡ true }
     {
         // proof: a hop that ends with `Ok` has the content, and which codes there are
         laws::ok_has_body();
@@ -164,6 +165,13 @@ impl Hop {
     {
         let place = self.location?;
         Some(&self.kept[place.start as usize..place.end as usize])
+    }
+
+    /// Whether its final head sends its request on (RFC 9110, section 15.4), whatever the code is.
+    pub fn sends_on(&self) -> bool
+        ensures { result ≡ (is_redirect_status self.now.status && is_some self.now.location) }
+    {
+        is_redirect(self.status) && self.location.is_some()
     }
 
     /// The request, by move.

@@ -1,13 +1,7 @@
-//! What holds of every link that serves a request, of every hop, and of every exchange's life. Each law is a function that does
-//! nothing: its contract is the law.
-ghost use Rattle.mx_exchange.specs.Laws.{TakenIsTheFront, OkHasBody, OkHasContent, HeldHasAll, CodesAreListed, DropsOnce};
+//! What holds of every hop, and of every exchange's life. Each law is a function that does nothing: its contract is the law.
+ghost use Rattle.mx_exchange.specs.Laws.{OkHasBody, OkHasContent, HeldHasAll, CodesAreListed, DropsOnce};
 
 use mx_link::Link;
-
-/// What a link has taken is a prefix of the request, and the whole of it once the link was read.
-pub fn request_is_taken_from_the_front()
-    ensures { TakenIsTheFront }
-{}
 
 /// With code 0 the first bytes of the wire are a response, and the bytes at the parts, joined, and then what was handed on are its content.
 pub fn ok_has_body()

@@ -3,13 +3,13 @@ ghost use Rattle.std.specs.Prelude.{◌≡◌, [], None, IfSome, false, length};
 ghost use Rattle.mx_body.specs.Decision.{HasStatus};
 ghost use Rattle.mx_types.specs.declared.code.Code.TheVariants as code;
 ghost use Rattle.mx_exchange.specs.Exchanges.{capped};
-ghost use Rattle.mx_exchange.specs.Lines.{IsGoing, MayHandOut};
+ghost use Rattle.mx_line.specs.Lines.{IsGoing, MayHandOut};
 ghost use Rattle.mx_exchange.specs.Hops.{MayEnd};
 ghost use Rattle.mx_exchange.specs.Stages.{limit_by, link_of, answers_of, reused_of};
 
 use crate::delivery::Delivery;
 use crate::hops::Hop;
-use crate::lines::Line;
+use mx_line::Line;
 use mx_link::{Answer, Link};
 use mx_reader::Reader;
 use mx_request::Request;

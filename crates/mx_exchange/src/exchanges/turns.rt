@@ -1,14 +1,13 @@
 //! What a turn of an exchange does.
 ghost use Rattle.std.specs.Prelude.{◌≡◌, ◌≤◌, true, false, [], Some, None, IsTrue, ◌↔◌, length};
-ghost use Rattle.mx_exchange.specs.Exchanges.{IsDue, IsServed, IsExchange, KeepsToken, HandsOver, capped, first_deadline, clocked, dropped};
-ghost use Rattle.mx_exchange.specs.Endings.{IsUndecided, is_stop_code};
+ghost use Rattle.mx_line.specs.Lines.{HandsOver};
+ghost use Rattle.mx_exchange.specs.Exchanges.{IsDue, IsServed, IsExchange, KeepsToken, capped, first_deadline, clocked, dropped};
+ghost use Rattle.mx_line.specs.Endings.{IsUndecided, is_stop_code};
 
 use super::Exchange;
 use super::stages::{Ended, Live, Stage, end, received};
-use crate::buffers::ReadBuffer;
-use crate::calls::Halt;
 use crate::hops::Hop;
-use crate::lines::Line;
+use mx_line::{Halt, ReadBuffer};
 use mx_link::Link;
 use mx_request::Request;
 use mx_types::Code;
@@ -111,7 +110,7 @@ impl<L: Link> Exchange<L> {
     // Ends without a further call on the link.
     fn stop(&mut self, live: Live<L>, code: Code) -> Hop
         requires live { IsAlive L.history L.asked L.token_of self.old.request self.old.limit self.old.needs_fresh self.old.failure live }
-        requires listed { is_stop_code code ≡ true }
+        requires listed { is_stop_code code self.old.limit ≡ true }
         ensures code { result.code ≡ code }
         ensures stopped { StopsWith (alive self.old live) self.new result }
     {
@@ -175,7 +174,13 @@ impl<L: Link> Exchange<L> {
             });
             return Turned::Waits;
         };
-        match line.serve(&request, &mut reader, buffer, out) {
+        match line.serve(
+            &request,
+            &mut reader,
+            self.delivery.most_reads(),
+            buffer,
+            out,
+        ) {
             Halt::Blocked => {
                 self.go_on(Live {
                     request,
@@ -306,8 +311,8 @@ impl<L: Link> Exchange<L> {
         }
     }
 
-    /// Takes one turn: at most one probe, 64 reads and 64 writes. Content that is handed on is added to `out`; of a
-    /// response that is held none is.
+    /// Takes one turn: at most one probe, 64 reads and 64 writes; where the content is handed on, at most 16 reads. Content that is handed on
+    /// is added to `out`; of a response that is held none is.
     pub fn turn(&mut self, out: &mut Vec<u8>) -> Turned
         requires { self.old.code ≡ None }
         ensures turn { Turns L.history (clocked self.old) self.new (how_of result) }

@@ -1,7 +1,8 @@
-use Rattle.std.proofs.Common.{◌≡◌, ◌∙◌, ◌++◌, ◌∷◌, [], false, None, arith, length-append}
+use Rattle.std.proofs.Common.{◌≡◌, sym, ◌∙◌, ◌++◌, ◌∷◌, [], false, None, arith, length-append}
 use Rattle.mx_exchange.specs.Exchanges.{renewed}
 use Rattle.mx_chain.specs.Chains.{counted, bytes_in}
 use Rattle.mx_chain.specs.Hops.{memory}
+use Rattle.mx_chain.specs.Passing.{passed}
 use Rattle.mx_chain.proofs.HopLemmas.{leads_on, bytes_more}
 use Rattle.mx_chain.proofs.StepLemmas.{follows_on, goes_on_same, kept_with}
 use Rattle.mx_chain.proofs.chains.Chain.follow.Goals as goal
@@ -9,7 +10,7 @@ use Rattle.mx_chain.proofs.chains.Chain.follow.Goals as goal
 pub invariant_of-self : goal.invariant_of-self
 invariant_of-self g c = record {
   most = c.self.invariant.most;
-  chain = kept_with _ _ _ (rw (← c.self.view_is) at c.requires.ended) c.self.invariant.chain (rw c.in-Err.ensures.items c.self.invariant.chain.few);
+  chain = kept_with _ _ _ (rw (← c.self.view_is) at c.requires.ended) c.self.invariant.chain (rw c.in-Err.ensures.items c.self.invariant.chain.few) c.in-Err.ensures.same;
 }
 
 pub end-requires-clause-cause : goal.end-requires-clause-cause
@@ -29,6 +30,7 @@ returns-in-Err g c =
       code = c.self.inside.code;
       link = c.self.inside.idle;
       home = c.self.inside.home;
+      content = passed c.self.inside.drops c.self.inside.exchange.content;
     }) c.in-Err.ensures.value_returned c.end.ensures)
 
 pub invariant_of-self-in-Ok : goal.invariant_of-self-in-Ok
@@ -37,7 +39,7 @@ invariant_of-self-in-Ok g c =
     record {
       most = c.self.invariant.most;
       chain = kept_with _ _ _ (rw (← c.self.view_is) at c.requires.ended) c.self.invariant.chain
-          (rw c.in-Ok.ensures.items (omega (arith, follows.1, length-append c.self.inside.hops.all (c.args.hop ∷ []))));
+          (rw c.in-Ok.ensures.items (omega (arith, follows.1, length-append c.self.inside.hops.all (c.args.hop ∷ [])))) c.in-Ok.ensures.same;
     }
 
 pub begin-requires-clause-leads : goal.begin-requires-clause-leads
@@ -74,7 +76,8 @@ returns-in-Ok g c =
       code = None;
       link = c.self.inside.idle;
       home = c.self.inside.home;
+      content = [];
     })))
 
-pub end-requires-clause-held : goal.end-requires-clause-held
-end-requires-clause-held g c = rw c.in-Err.ensures.value_returned c.requires.held
+pub end-requires-clause-kept : goal.end-requires-clause-kept
+end-requires-clause-kept g c = rw c.in-Err.ensures.value_returned (λ e. (rw (← c.self.view_is) at c.requires.kept) (sym c.in-Err.ensures.same ∙ e))

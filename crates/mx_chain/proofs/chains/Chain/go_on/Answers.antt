@@ -37,3 +37,9 @@ end-requires-clause-cause g c = c.in-Err.ensures
 
 pub returns-in-Err : goal.returns-in-Err
 returns-in-Err g c = goes_on_released _ _ _ _ _ c.release.ensures c.end.ensures
+
+pub follow-requires-clause-kept : goal.follow-requires-clause-kept
+follow-requires-clause-kept g c = rw c.release.ensures c.requires.kept
+
+pub end-requires-clause-kept : goal.end-requires-clause-kept
+end-requires-clause-kept g c = rw c.release.ensures c.requires.kept

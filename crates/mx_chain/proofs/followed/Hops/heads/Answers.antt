@@ -1,8 +1,5 @@
-use Rattle.std.proofs.Common.{arith, length, refl, sym, ap, subst, ◌∙◌}
+use Rattle.std.proofs.Common.{arith, length, refl}
 use Rattle.std.proofs.lemmas.Option.{slice_get_read}
-use Rattle.mx_exchange.specs.Exchanges.{HopValue}
-use Rattle.mx_chain.specs.Followed.{AreHeld}
-use Rattle.mx_chain.proofs.HopLemmas.{held_read}
 use Rattle.std.proofs.lemmas.Grind.{common_steps}
 use Rattle.mx_chain.proofs.followed.Hops.heads.Goals as goal
 
@@ -23,12 +20,6 @@ returns-in_ok-get-in-Whole-clause-count c = grind (arith, common_steps)
 
 pub returns-in_ok-get-in-Heads-clause-count : goal.returns-in_ok-get-in-Heads-clause-count
 returns-in_ok-get-in-Heads-clause-count c = grind (arith, common_steps)
-
-pub heads_of-requires : goal.heads_of-requires
-heads_of-requires c =
-    let at = c.in_ok-get-in-Whole.ensures.lookup in
-    let held = subst AreHeld (sym c.deref.ensures.value) (rw c.in-Whole.is at c.self.invariant) in
-    ap (λ (o : HopValue). o.limit) at.1 ∙ held_read _ _ _ held at.3.0
 
 pub returns-in_ok-get-in-Whole-clause-heads : goal.returns-in_ok-get-in-Whole-clause-heads
 returns-in_ok-get-in-Whole-clause-heads c =

@@ -1,10 +1,12 @@
-use Rattle.std.proofs.Common.{refl, ap, ◌∙◌}
+use Rattle.std.proofs.Common.{◌≡◌, ℕ, true, Option, refl, sym, ap, subst, ◌∙◌}
+use Rattle.mx_line.specs.Endings.{is_stop_code}
 use Rattle.mx_exchange.specs.Exchanges.{ExchangeState}
 use Rattle.mx_exchange.proofs.Advanced.{Advance-on, Advance-paused, Advance-taken, clock_kept, keeps_same, none_over, over_from, stop_kept}
 use Rattle.mx_exchange.proofs.exchanges.Exchange.advance.Goals as goal
 
 pub stop-requires-clause-listed : goal.stop-requires-clause-listed
-stop-requires-clause-listed g c = c.in-Stops.ensures.1
+stop-requires-clause-listed g c =
+    subst (λ (n : Option ℕ). is_stop_code c.in-Stops.code n ≡ true) (sym (ap (λ (t : ExchangeState _). t.limit) c.take-live.ensures.is)) c.in-Stops.ensures.1
 
 pub returns-in-Stops-clause-turn : goal.returns-in-Stops-clause-turn
 returns-in-Stops-clause-turn g c =

@@ -1,9 +1,14 @@
-use Rattle.std.proofs.Common.{◌≡◌, Some, refl, sym, ap, ◌∙◌}
-use Rattle.mx_exchange.specs.Lines.{LineState}
-use Rattle.mx_exchange.specs.Turns.{unserved}
+use Rattle.std.proofs.Common.{◌≡◌, ℕ, Some, refl, sym, ap, ◌∙◌}
+use Rattle.mx_line.specs.Lines.{LineState}
+use Rattle.mx_exchange.specs.Turns.{most_turn_reads, unserved}
+use Rattle.mx_exchange.specs.Exchanges.{ExchangeState}
 use Rattle.mx_exchange.proofs.Advanced.{Exchange-blocked, Exchange-unfinished, Exchange-lost, Exchange-ended, none_over, over_to}
 use Rattle.mx_exchange.proofs.HopLemmas.{received_bounded, kept_ends}
 use Rattle.mx_exchange.proofs.exchanges.Exchange.exchange.Goals as goal
+
+-- the most reads are those of its limit
+reads_fit : {L : Type 0} {n : ℕ} {x y : ExchangeState L} → n ≡ most_turn_reads x.limit → x ≡ y → n ≡ most_turn_reads y.limit
+reads_fit e same = e ∙ ap (λ (t : ExchangeState _). most_turn_reads t.limit) same
 
 pub returns-in_default-clause-turn : goal.returns-in_default-clause-turn
 returns-in_default-clause-turn g c = rw (c.go_on.ensures, c.in_default.is) (unserved refl refl)
@@ -14,7 +19,7 @@ returns-in-Blocked-clause-turn g c =
     let serves = rw had at c.requires.live.serves in
     let t = c.in-Blocked.ensures.turn in
     rw (c.go_on-in-Blocked.ensures, had, ap (λ (l : LineState _). l.attached) t.grows, ap (λ (l : LineState _). l.is_reused) t.grows, ap (λ (l : LineState _). l.needs_probe) t.grows)
-    (Exchange-blocked _ _ _ _ _ _ _ refl refl refl serves.about serves.line.told c.in-Blocked.ensures.line.told t refl refl)
+    (Exchange-blocked _ _ _ _ _ _ _ refl refl refl serves.about serves.line.told c.in-Blocked.ensures.line.told _ (reads_fit c.most_reads.ensures.most c.self.view_is) t refl refl)
 
 pub returns-in-Unfinished-clause-turn : goal.returns-in-Unfinished-clause-turn
 returns-in-Unfinished-clause-turn g c =
@@ -22,7 +27,7 @@ returns-in-Unfinished-clause-turn g c =
     let serves = rw had at c.requires.live.serves in
     let t = c.in-Unfinished.ensures.turn in
     rw (c.go_on-in-Unfinished.ensures, had, ap (λ (l : LineState _). l.attached) t.grows, ap (λ (l : LineState _). l.is_reused) t.grows, ap (λ (l : LineState _). l.needs_probe) t.grows)
-    (Exchange-unfinished _ _ _ _ _ _ _ refl refl refl serves.about serves.line.told c.in-Unfinished.ensures.line.told t refl refl)
+    (Exchange-unfinished _ _ _ _ _ _ _ refl refl refl serves.about serves.line.told c.in-Unfinished.ensures.line.told _ (reads_fit c.most_reads.ensures.most c.self.view_is) t refl refl)
 
 pub returns-in-Lost-clause-turn : goal.returns-in-Lost-clause-turn
 returns-in-Lost-clause-turn g c =
@@ -31,7 +36,7 @@ returns-in-Lost-clause-turn g c =
     let t = c.in-Lost.ensures.turn in
     let fresh = ap (λ (l : LineState _). l.is_stale) t.grows ∙ serves.current in
     rw (c.begin_again.ensures, had)
-    (Exchange-lost _ _ _ _ _ _ _ refl refl refl serves.about serves.line.told c.in-Lost.ensures.line.told t refl (c.in-Lost.ensures.line.serving fresh).order refl)
+    (Exchange-lost _ _ _ _ _ _ _ refl refl refl serves.about serves.line.told c.in-Lost.ensures.line.told _ (reads_fit c.most_reads.ensures.most c.self.view_is) t refl (c.in-Lost.ensures.line.serving fresh).order refl)
 
 pub returns-in-Over-clause-turn : goal.returns-in-Over-clause-turn
 returns-in-Over-clause-turn g c =
@@ -40,7 +45,7 @@ returns-in-Over-clause-turn g c =
     let about = c.requires.live.about in
     let t = c.in-Over.ensures.turn in
     rw (c.settle.ensures, had, ap (λ (l : LineState _). l.attached) t.grows, ap (λ (l : LineState _). l.is_reused) t.grows, ap (λ (l : LineState _). l.needs_probe) t.grows, c.received-count.ensures)
-    (Exchange-ended _ _ _ _ _ _ _ refl refl refl serves.about serves.line.told c.in-Over.ensures.line.told t c.in-Over.code _ refl (c.in-Over.ensures.handed.limit ∙ c.requires.live.limit_is) (c.end.ensures.request ∙ about ∙ sym serves.about) c.end.ensures.limit c.end.ensures.wire c.end.ensures.code c.end.ensures.status c.end.ensures.parts c.end.ensures.content (c.end.ensures.answers ∙ c.answers-answers.ensures) (c.end.ensures.reused ∙ c.of-is_reused.ensures ∙ c.is_reused.ensures) c.may_keep-is_kept.ensures refl)
+    (Exchange-ended _ _ _ _ _ _ _ refl refl refl serves.about serves.line.told c.in-Over.ensures.line.told _ (reads_fit c.most_reads.ensures.most c.self.view_is) t c.in-Over.code _ refl (c.in-Over.ensures.handed.limit ∙ c.requires.live.limit_is) (c.end.ensures.request ∙ about ∙ sym serves.about) c.end.ensures.limit c.end.ensures.wire c.end.ensures.code c.end.ensures.status c.end.ensures.parts c.end.ensures.content (c.end.ensures.answers ∙ c.answers-answers.ensures) (c.end.ensures.reused ∙ c.of-is_reused.ensures ∙ c.is_reused.ensures) c.may_keep-is_kept.ensures refl)
 
 pub returns-in_default-clause-handed : goal.returns-in_default-clause-handed
 returns-in_default-clause-handed g c = rw c.go_on.ensures (none_over _ _ _ refl)

@@ -2,7 +2,7 @@ use Rattle.std.proofs.Common.{◌≡◌, ◌∙◌, List, Some, refl, sym, ap, r
 use Rattle.mx_link.specs.Answers.{given}
 use Rattle.mx_link.specs.declared.answers.Answer.{Answer}
 use Rattle.mx_exchange.proofs.StageLemmas.{dropped_by, wants_fresh}
-use Rattle.mx_exchange.proofs.Steps.{unhanded}
+use Rattle.mx_line.proofs.Steps.{unhanded}
 use Rattle.mx_exchange.proofs.exchanges.Exchange.probe.Goals as goal
 
 pub invariant_of-self : goal.invariant_of-self

@@ -1,5 +1,5 @@
 use Rattle.std.proofs.Common.{refl}
-use Rattle.std.proofs.Common.{sym, ap, ◌∙◌}
+use Rattle.std.proofs.Common.{ap, ◌∙◌}
 use Rattle.mx_reader.specs.Readers.{ReaderValue}
 use Rattle.mx_exchange.specs.Exchanges.{ExchangeState}
 use Rattle.mx_exchange.proofs.Advanced.{Touch-refused, Touch-turned, Touch-unserved, keeps_same, none_over, over_from, probed_ready, touch_dropped, touch_kept}

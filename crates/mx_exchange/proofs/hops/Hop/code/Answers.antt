@@ -12,4 +12,4 @@ pub returns-clause-content : goal.returns-clause-content
 returns-clause-content c = rw (← c.self.view_is) (c.ok_has_content.ensures _ c.self.invariant.outcome)
 
 pub returns-clause-listed : goal.returns-clause-listed
-returns-clause-listed c = c.codes_are_listed.ensures _ c.self.invariant.outcome
+returns-clause-listed c = rw (← c.self.view_is) (c.codes_are_listed.ensures _ c.self.invariant.outcome)

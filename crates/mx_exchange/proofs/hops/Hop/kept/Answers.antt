@@ -1,4 +1,4 @@
-use Rattle.std.proofs.Common.{rules, ◌∙◌}
+use Rattle.std.proofs.Common.{rules}
 use Rattle.mx_exchange.proofs.HopLemmas.{front_of_outcome, all_of_outcome}
 use Rattle.mx_exchange.proofs.hops.Hop.kept.Goals as goal
 

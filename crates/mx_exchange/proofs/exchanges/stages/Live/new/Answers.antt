@@ -1,6 +1,6 @@
 use Rattle.std.proofs.Common.{refl, ap, ◌∙◌}
 use Rattle.mx_reader.specs.Readers.{ReaderValue}
-use Rattle.mx_exchange.proofs.Judged.{judged_past, undecided_by}
+use Rattle.mx_line.proofs.Judged.{judged_past, undecided_by}
 use Rattle.mx_exchange.proofs.exchanges.stages.Live.new.Goals as goal
 
 pub returns-clause-going : goal.returns-clause-going

@@ -1,5 +1,0 @@
-use Rattle.mx_exchange.proofs.Fronts.{front_from_start}
-use Rattle.mx_exchange.proofs.laws.request_is_taken_from_the_front.Goals as goal
-
-pub returns : goal.returns
-returns c = front_from_start
