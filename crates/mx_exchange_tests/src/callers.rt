@@ -3,8 +3,8 @@
 ghost use Rattle.std.specs.Prelude.{◌≡◌, ◌≢◌, ◌≤◌, true, None, Some, length};
 ghost use Rattle.futures.specs.Poll.{IfReady, OnPending};
 ghost use Rattle.mx_types.specs.declared.code.Code.TheVariants as code;
-ghost use Rattle.mx_exchange.specs.Order.{InOrder};
-ghost use Rattle.mx_exchange.specs.Endings.{IsUndecided};
+ghost use Rattle.mx_line.specs.Order.{InOrder};
+ghost use Rattle.mx_line.specs.Endings.{IsUndecided};
 ghost use Rattle.mx_exchange.specs.Exchanges.{KeepsToken};
 ghost use Rattle.mx_exchange.specs.Hops.{IsWhole, HasContent, IsFront};
 ghost use Rattle.mx_chain.specs.Chains.{bytes_in, received_of};
@@ -13,11 +13,11 @@ ghost use Rattle.mx_chain.specs.Outcomes.{IsOutcome, hops_of, is_outcome_code};
 use futures::Future;
 use futures::task::{Context, Poll};
 use mx_link::Link;
-use mx_transfer::{Outcome, Transfer};
+use mx_transfer::{Ended, Outcome, Transfer};
 use mx_types::Code;
 
 /// Polls once.
-pub fn poll_once<L: Link>(transfer: &mut Transfer<L>, cx: &mut Context<'_>) -> Poll<Outcome>
+pub fn poll_once<L: Link>(transfer: &mut Transfer<L>, cx: &mut Context<'_>) -> Poll<Ended>
     requires { transfer.old.chain.code ≡ None }
     ensures request { IfReady result (λ outcome. outcome.request ≡ transfer.old.chain.request) }
     ensures code { IfReady result (λ outcome. transfer.new.chain.code ≡ Some outcome.code) }
@@ -36,7 +36,7 @@ pub fn is_whole(outcome: &Outcome) -> bool
     ensures whole { result ≡ true → IsWhole outcome.now.last }
     ensures content { result ≡ true → HasContent outcome.now.last }
     ensures only { outcome.now.code ≡ code.Ok → result ≡ true }
-    ensures listed { is_outcome_code outcome.now.code ≡ true }
+    ensures listed { is_outcome_code outcome.now.code outcome.now.last.limit ≡ true }
 {
     outcome.code() == Code::Ok
 }

@@ -69,9 +69,9 @@ fn poll<L: Link>(task: &MockTask, transfer: &mut Transfer<L>) -> Option<Code> {
         return None;
     }
     match task.poll(transfer) {
-        Poll::Ready(outcome) => {
-            let code = outcome.code();
-            drop(outcome);
+        Poll::Ready(ended) => {
+            let code = ended.end().code();
+            drop(ended);
             Some(code)
         }
         Poll::Pending => None,

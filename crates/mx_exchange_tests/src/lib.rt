@@ -7,9 +7,13 @@ pub mod callers;
 #[cfg(test)]
 mod connecting;
 #[cfg(test)]
+mod delivering;
+#[cfg(test)]
 mod faults;
 #[cfg(test)]
 mod flowing;
+#[cfg(test)]
+mod flowing_hops;
 #[cfg(test)]
 mod hops;
 #[cfg(test)]

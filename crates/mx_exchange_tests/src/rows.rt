@@ -1,7 +1,7 @@
 //! A row: what a transfer is made of, the calls on it, and what is seen of it then.
 
 use crate::replay::{Stop, are_so, verdict};
-use crate::{flowing, hops, redirects, table};
+use crate::{delivering, flowing, flowing_hops, hops, redirects, table};
 use futures::test::MockTask;
 use mx_link::{ScriptRead, Write};
 use mx_types::{Code, Method};
@@ -155,7 +155,9 @@ fn play_all(alloc: Global, task: &MockTask) -> Result<(), Stop> {
     are_so(alloc, task, &table::rows())?;
     are_so(alloc, task, &hops::rows())?;
     are_so(alloc, task, &redirects::rows())?;
-    flowing::are_so(alloc)
+    flowing::are_so(alloc)?;
+    flowing_hops::are_so(alloc)?;
+    delivering::are_so(alloc, task)
 }
 
 #[test]

@@ -1,3 +1,4 @@
+pub mod Handing
 pub mod QueuedSends
 pub mod Sends
 pub mod Wakers

@@ -4,14 +4,12 @@ use denote.Param.Send.{IsSend, struct_send, sendable}
 use denote.Struct.Declared.{shape}
 use Rattle.mx_link.specs.declared.links.Link as link
 use Rattle.std.proofs.Crossing.{crosses}
-use Rattle.mx_transfer.proofs.Sends.{transfer_send}
+use Rattle.mx_transfer.proofs.Sends.{held_transfer_send}
 use Rattle.mx_transfer.specs.contracts.queued.Queued as Queued
 use Rattle.mx_transfer.specs.contracts.queued.Queued.TheInside as QueuedInside
 
 queued_inside : (L : RattleType) (g : link.Ghosts L.Denot) → IsSend L → IsSend (QueuedInside.the_field L g).row
-queued_inside L g s =
-    let t = transfer_send L g s in
-    struct_send (shape (QueuedInside.the_type L g)) (search (sendable, crosses) depth 40 fits 20000, tt)
+queued_inside L g s = struct_send (shape (QueuedInside.the_type L g)) (search (held_transfer_send, sendable, crosses) depth 40 fits 20000, tt)
 
 pub queued_send : (L : RattleType) (g : link.Ghosts L.Denot) → IsSend L → IsSend (Queued.the_row L g)
 queued_send L g s =

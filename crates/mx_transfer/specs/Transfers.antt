@@ -8,7 +8,9 @@ use Rattle.futures.specs.declared.task.Poll.TheVariants as poll
 use Rattle.mx_link.specs.declared.answers.Answer.{Answer}
 use Rattle.mx_chain.specs.Chains.{ChainState}
 use Rattle.mx_chain.specs.Outcomes.{OutcomeValue}
-use Rattle.mx_chain.specs.Steps.{Steps, waits, asks, ends}
+use Rattle.mx_chain.specs.Steps.{How, Steps, waits, asks, ends}
+use Rattle.mx_transfer.specs.declared.polled.Polled.{Polled}
+use Rattle.mx_transfer.specs.declared.polled.Polled.TheVariants as polled
 
 -- `waker` is where a poll that waits leaves its task's waker, for all that it waits for; `has_asked` says whether the last poll asked for
 -- another
@@ -26,3 +28,19 @@ PollSo history old new (poll.Ready o) was is = Steps history old.chain new.chain
 PollSo history old new poll.Pending was is =
     (Steps history old.chain new.chain waits × (new ≡ record old { chain = new.chain; waker = new.waker; has_asked = false }) × IsLeftIn was is new.waker)
     ⊎ (Steps history old.chain new.chain asks × (new ≡ record old { chain = new.chain; has_asked = true }) × (is.is_woken ≡ true))
+
+-- what a poll came to
+abbrev pub how_of : Polled → How
+how_of polled.Waits = waits
+how_of polled.Asks = asks
+how_of (polled.Ended o) = ends o
+
+-- this holds for the outcome, where the poll ended the transfer
+abbrev pub IfEnded : Polled → (OutcomeValue → Type 0) → Type 0
+IfEnded (polled.Ended o) P = P o
+IfEnded _ P = Unit {0}
+
+-- where it goes on
+abbrev pub IfGoing : Polled → Type 0 → Type 0
+IfGoing (polled.Ended o) P = Unit {0}
+IfGoing _ P = P

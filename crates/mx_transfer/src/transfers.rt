@@ -1,23 +1,28 @@
 //! A transfer as a future.
-ghost use Rattle.std.specs.Prelude.{◌≡◌, ◌≤◌, ◌↔◌, ◌⊎◌, None, Some, true, false, IsSome, IfSome, is_some, option_map, option_copied};
+ghost use Rattle.std.specs.Prelude.{◌≡◌, ◌≢◌, ◌≤◌, ◌↔◌, ◌⊎◌, [], None, Some, true, false, IsSome, IfSome, is_some, option_map, option_copied};
 ghost use Rattle.mx_types.specs.Code.{is_link_code};
-ghost use Rattle.mx_exchange.specs.Endings.{IsUndecided};
+ghost use Rattle.mx_line.specs.Endings.{IsUndecided};
 ghost use Rattle.mx_exchange.specs.Exchanges.{WantsLink, IsDue, IsExchange, KeepsToken, attached, clocked};
 ghost use Rattle.mx_chain.specs.Chains.{IsChain, begun, begun_with_heads, received_of, home_of};
 ghost use Rattle.mx_transfer.specs.Transfers.{TransferState};
 
+use crate::ended::Ended;
+use crate::outgoing::Outgoing;
 use futures::Future;
 use futures::task::{Context, Poll, Source, Waker};
-use mx_chain::{Chain, Outcome, ReadBuffer, Stepped, Want};
+use mx_chain::{Chain, ReadBuffer, Stepped, Want};
 use mx_link::Link;
 use mx_request::{Endpoint, Request};
+use mx_sink::{Delivery, Held};
 use mx_types::{Code, Work};
 use std::alloc::Global;
 use std::marker::Model;
 
-/// A request, its hops, and what it waits for: its link and its deadline.
-pub struct Transfer<L: Link> {
+/// A request, its hops, what becomes of the content of its response, and what it waits for: its link and its deadline.
+pub struct Transfer<L: Link, D: Delivery = Held> {
     chain: Chain<L>,
+    // There until it has ended.
+    outgoing: Option<Outgoing<D>>,
     link_source: Source,
     time_source: Source,
     // Of the task that polls it, for both sources.
@@ -27,21 +32,24 @@ pub struct Transfer<L: Link> {
 }
 
 // Written out, and not derived: a crate that drops transfers then cites the proof of this function, and proves none for each part of one.
-impl<L: Link> Drop for Transfer<L> {
+impl<L: Link, D: Delivery> Drop for Transfer<L, D> {
     fn drop(self) {
         let Transfer {
             chain,
+            outgoing,
             link_source: _,
             time_source: _,
             waker,
             has_asked: _,
         } = self;
         drop(chain);
+        drop(outgoing);
         drop(waker);
     }
 }
 
-impl<L: Link> Model for Transfer<L> {
+impl<L: Link, D: Delivery> Model for Transfer<L, D> {
+    ghost use Rattle.mx_transfer.specs.Deliveries.{IsDelivering};
     ghost use Rattle.mx_transfer.specs.Transfers.{TransferState};
 
     ghost Value = { TransferState L };
@@ -53,46 +61,70 @@ impl<L: Link> Model for Transfer<L> {
       waker = t.waker;
       has_asked = t.has_asked;
     } };
+
+    ghost invariant = { λ t. IsDelivering D.flows D.handed t.chain t.outgoing };
 }
 
-impl<L: Link> Work for Transfer<L> {
+impl<L: Link, D: Delivery> Work for Transfer<L, D> {
     ghost use Rattle.mx_request.specs.Request.{request_origin};
 
     ghost origin = { λ t. request_origin t.chain.request };
 }
 
-impl<L: Link> Transfer<L> {
-    ghost use Rattle.futures.specs.Task.{Hears, IsArmed, Keeps};
-    ghost use Rattle.futures.specs.Slot.{IsLeftIn};
-    ghost use Rattle.futures.specs.declared.task.Poll.TheVariants as Poll;
-
-    /// A transfer of the request, which keeps all bytes of the hops that it follows. It takes no memory; what its polls grow comes from
-    /// `alloc`.
-    pub fn new(alloc: Global, request: Request) -> Transfer<L>
+impl<L: Link> Transfer<L, Held> {
+    /// A transfer of the request, whose responses are held, and which keeps all bytes of the hops that it follows. It takes no memory; what
+    /// its polls grow comes from `alloc`.
+    pub fn new(alloc: Global, request: Request) -> Transfer<L, Held>
         ensures chain { result.chain ≡ begun request }
         ensures waker { result.waker ≡ None }
         ensures unasked { result.has_asked ≡ false }
     {
-        Transfer::of(Chain::new(alloc, request))
+        Transfer::of(alloc, Chain::new(alloc, request), Held)
     }
 
     /// The same, which keeps of each hop that it follows its heads alone: the body is freed before the next hop begins.
-    pub fn keeping_heads(alloc: Global, request: Request) -> Transfer<L>
+    pub fn keeping_heads(alloc: Global, request: Request) -> Transfer<L, Held>
         ensures chain { result.chain ≡ begun_with_heads request }
         ensures waker { result.waker ≡ None }
         ensures unasked { result.has_asked ≡ false }
     {
-        Transfer::of(Chain::keeping_heads(alloc, request))
+        Transfer::of(alloc, Chain::keeping_heads(alloc, request), Held)
+    }
+}
+
+impl<L: Link, D: Delivery> Transfer<L, D> {
+    ghost use Rattle.futures.specs.Task.{Hears, IsArmed, Keeps};
+    ghost use Rattle.futures.specs.Slot.{IsLeftIn};
+    ghost use Rattle.futures.specs.declared.task.Poll.TheVariants as Poll;
+    ghost use Rattle.mx_transfer.specs.Deliveries.{begun_for, limit_by};
+
+    /// A transfer of the request, which keeps of each hop that it follows its heads alone. Its response is held, or its content is handed to
+    /// the delivery, which has none yet, as it comes.
+    pub fn delivering(alloc: Global, request: Request, delivery: D) -> Transfer<L, D>
+        requires { D.handed delivery ≡ [] }
+        ensures chain { result.chain ≡ begun_for (D.flows delivery) request }
+        ensures waker { result.waker ≡ None }
+        ensures unasked { result.has_asked ≡ false }
+    {
+        let chain = match delivery.most_bytes() {
+            None => Chain::keeping_heads(alloc, request),
+            Some(most_bytes) => Chain::flowing(alloc, request, most_bytes),
+        };
+        Transfer::of(alloc, chain, delivery)
     }
 
     // No poll of it has waited.
-    fn of(chain: Chain<L>) -> Transfer<L>
+    fn of(alloc: Global, chain: Chain<L>, delivery: D) -> Transfer<L, D>
+        requires limit { chain.now.limit ≡ limit_by (D.flows delivery) }
+        requires content { chain.content ≡ [] }
+        requires none { D.handed delivery ≡ [] }
         ensures chain { result.chain ≡ chain }
         ensures waker { result.waker ≡ None }
         ensures unasked { result.has_asked ≡ false }
     {
         Transfer {
             chain,
+            outgoing: Some(Outgoing::new(alloc, delivery)),
             link_source: Source::new(),
             time_source: Source::new(),
             waker: None,
@@ -107,11 +139,13 @@ impl<L: Link> Transfer<L> {
     {
         let Transfer {
             chain,
+            outgoing,
             link_source: _,
             time_source: _,
             waker,
             has_asked: _,
         } = self;
+        drop(outgoing);
         drop(waker);
         chain.into_request()
     }
@@ -251,7 +285,7 @@ impl<L: Link> Transfer<L> {
     }
 
     // Registers with what the transfer waits for: its deadline, and its link. One waker is left, for both.
-    fn wait(&mut self, cx: &mut Context<'_>) -> Poll<Outcome>
+    fn wait(&mut self, cx: &mut Context<'_>) -> Poll<Ended<D>>
         ensures pending { result ≡ Poll.Pending }
         ensures same { self.new ≡ record self.old { waker = self.new.waker } }
         ensures armed { IsArmed cx.new }
@@ -265,15 +299,15 @@ impl<L: Link> Transfer<L> {
     }
 }
 
-impl<L: Link> Future for Transfer<L> {
-    type Output = Outcome;
+impl<L: Link, D: Delivery> Future for Transfer<L, D> {
+    type Output = Ended<D>;
 
     ghost use Rattle.std.specs.Prelude.{◌≡◌, ◌≢◌, ◌≤◌, ◌⊎◌, ℕ, None, Some, IsSome};
     ghost use Rattle.futures.specs.Task.{Covers, Keeps};
     ghost use Rattle.futures.specs.Poll.{IfReady, OnPending};
     ghost use Rattle.mx_types.specs.declared.code.Code.TheVariants as Code;
     ghost use Rattle.mx_chain.specs.Chains.{bytes_in};
-    ghost use Rattle.mx_chain.specs.Outcomes.{IsOutcome, hops_of};
+    ghost use Rattle.mx_chain.specs.Outcomes.{IsChainEnd, hops_of};
     ghost use Rattle.mx_transfer.specs.Transfers.{PollSo};
 
     ghost can_poll = { λ t. t.chain.code ≡ None };
@@ -282,8 +316,8 @@ impl<L: Link> Future for Transfer<L> {
 
     ghost gives = { λ t outcome. outcome.request ≡ t.chain.request };
 
-    /// Takes one turn.
-    fn poll(&mut self, cx: &mut Context<'_>) -> Poll<Outcome>
+    /// Takes one turn. The content that it hands on goes to the delivery, once that has room.
+    fn poll(&mut self, cx: &mut Context<'_>) -> Poll<Ended<D>>
         requires { self.old.chain.code ≡ None }
         ensures value { IfReady result (λ outcome. outcome.request ≡ self.old.chain.request) }
         ensures again { OnPending result (self.new.chain.code ≡ None) }
@@ -299,15 +333,25 @@ impl<L: Link> Future for Transfer<L> {
         ensures received { IfReady result (λ outcome. received_of self.new.chain ≡ bytes_in (hops_of outcome)) }
         // the count of bytes never falls
         ensures counted { received_of self.old.chain ≤ received_of self.new.chain }
-        ensures outcome { IfReady result IsOutcome }
+        ensures outcome { IfReady result IsChainEnd }
         ensures token { KeepsToken L.token_of self.old.chain.now.link self.new.chain.now.link }
         ensures known { IsChain self.new.chain }
         ensures hop { IsExchange L.history L.asked L.token_of self.new.chain.now }
         ensures undecided { OnPending result (IsUndecided self.new.chain.now.limit self.new.chain.now.request.method self.new.chain.now.answers) }
     {
         self.has_asked = false;
-        match self.chain.turn() {
-            Stepped::Ended(outcome) => Poll::Ready(outcome),
+        let Some(outgoing) = &mut self.outgoing else {
+            unreachable!()
+        };
+        let stepped = self.chain.turn(&mut outgoing.rest);
+        outgoing.hand_on();
+        match stepped {
+            Stepped::Ended(end) => {
+                let Some(outgoing) = self.outgoing.take() else {
+                    unreachable!()
+                };
+                Poll::Ready(outgoing.end(end))
+            }
             Stepped::Asks => {
                 self.has_asked = true;
                 cx.yield_now()

@@ -4,7 +4,8 @@ ghost use Rattle.mx_types.specs.Limits.{most_transfers};
 ghost use Rattle.mx_types.specs.declared.reply.Look.TheVariants as look;
 ghost use Rattle.mx_request.specs.Request.{request_origin};
 ghost use Rattle.mx_exchange.specs.Exchanges.{WantsLink};
-ghost use Rattle.mx_chain.specs.Steps.{IfEnded, IfGoing, Steps, how_of};
+ghost use Rattle.mx_chain.specs.Steps.{Steps};
+ghost use Rattle.mx_transfer.specs.Transfers.{IfEnded, IfGoing, how_of};
 ghost use Rattle.mx_gate.specs.Said.{is_stop};
 ghost use Rattle.mx_turn.specs.Workers.{Return, gives_back, in_hand, does, holds, IsOver};
 ghost use Rattle.mx_turn.specs.Turn.{Each, Claims, Retries, LooksAt, GivesBack, GoesThrough, Stops, WorkerTurn, is_go, longest_wait, prepared, time_left, wait_of};
@@ -16,10 +17,10 @@ use crate::next::{least_deadline, take_next};
 use crate::queue::Queue;
 use futures::Future;
 use futures::task::{Poll, Solo};
-use mx_chain::{ReadBuffer, Stepped};
+use mx_chain::ReadBuffer;
 use mx_gate::{Gate, Turn};
 use mx_link::Link;
-use mx_transfer::Transfer;
+use mx_transfer::{Polled, Transfer};
 use mx_turn::Links;
 use mx_types::Look;
 use std::marker::Model;
@@ -66,7 +67,7 @@ fn least_left<L: Link, C: Right, E: Tied>(held: &Queue<Held<L, C>, E>, now: u64)
 
 // One poll, in the context of the worker's one task, with this buffer for its reads. The task goes on whatever the poll answers.
 // A task that has ended can't say whether a poll asked for another.
-fn poll_once<L: Link>(solo: &Solo, buffer: &mut ReadBuffer, transfer: &mut Transfer<L>) -> Stepped
+fn poll_once<L: Link>(solo: &Solo, buffer: &mut ReadBuffer, transfer: &mut Transfer<L>) -> Polled
     requires running { transfer.old.chain.code ≡ None }
     ensures steps { Steps L.history transfer.old.chain transfer.new.chain (how_of result) }
     ensures value { IfEnded result (λ o. o.request ≡ transfer.old.chain.request) }
@@ -78,17 +79,17 @@ fn poll_once<L: Link>(solo: &Solo, buffer: &mut ReadBuffer, transfer: &mut Trans
     let polled = transfer.poll(&mut cx);
     transfer.swap_buffer(buffer);
     match polled {
-        Poll::Ready(outcome) => {
+        Poll::Ready(ended) => {
             let _again: Poll<()> = cx.yield_now();
             cx.park();
-            Stepped::Ended(outcome)
+            Polled::Ended(ended.into_outcome())
         }
         Poll::Pending => {
             cx.park();
             if transfer.has_asked() {
-                Stepped::Asks
+                Polled::Asks
             } else {
-                Stepped::Waits
+                Polled::Waits
             }
         }
     }
@@ -286,7 +287,7 @@ impl<L: Link, C: Right, E: Engine<L, C>> WorkerCore<L, C, E> {
 
     // rule turn-progress
     // Polls a transfer once, notes how many bytes it has received, and keeps the link that a hop left.
-    fn poll(&mut self, right: &C, transfer: &mut Transfer<L>) -> Stepped
+    fn poll(&mut self, right: &C, transfer: &mut Transfer<L>) -> Polled
         requires running { transfer.old.chain.code ≡ None }
         ensures polls { Polls L.history (record { ticket = C.ticket_of right.now; slot = C.slot_of right.now; transfer = transfer.old.chain }) transfer.new.chain self.old.worker self.new.worker (how_of result) }
         ensures value { IfEnded result (λ o. o.request ≡ transfer.old.chain.request) }
@@ -319,12 +320,12 @@ impl<L: Link, C: Right, E: Engine<L, C>> WorkerCore<L, C, E> {
         let lent: &mut Transfer<L> = &mut transfer;
         let delayed = self.make_ready(gate, now, goes, lent);
         match self.poll(&right, lent) {
-            Stepped::Waits => {
+            Polled::Waits => {
                 let wants = wants_link(lent);
                 self.hold_on(right, transfer, could_go_on(goes, delayed, wants));
             }
-            Stepped::Asks => self.hold_on(right, transfer, goes),
-            Stepped::Ended(outcome) => {
+            Polled::Asks => self.hold_on(right, transfer, goes),
+            Polled::Ended(outcome) => {
                 drop(transfer);
                 self.record(rt, Finished::new(right, outcome));
             }
