@@ -20,8 +20,7 @@ set -u
 
 # The crates whose tests are run, crates/NAME/out/NAME_tests, each with a word in the names of those that are.
 tests='
-mx_request_tests    ^refused
-mx_body_tests       ^refused
+mx_bytes_tests      ^refused
 mx_exchange_tests   ^refused
 mx_journal_tests    ^refused
 mx_gate_tests       ^refused

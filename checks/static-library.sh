@@ -31,7 +31,7 @@ for crate in $reached; do
     cp -r "$top/crates/$crate" "$work/crates/"
     grep "^$crate:" "$top/crates.txt" >> "$work/crates.txt"
 done
-echo 'fetch_library staticlib: mx_types mx_request mx_link mx_exchange mx_chain mio' >> "$work/crates.txt"
+echo 'fetch_library staticlib: mx_types mx_request mx_link mx_line mx_exchange mx_chain mio' >> "$work/crates.txt"
 cp "$top/checks/static-library-program.txt" "$work/crates/fetch_library/src/lib.rt"
 touch "$work/crates/fetch_library/specs/Lib.antt"
 cp "$top/HANDLES" "$work/"

@@ -24,7 +24,7 @@ import unproved
 
 JOB_MEMORY = 3 << 30   # of a crate of tests, in bytes
 SECONDS = 600          # of a crate's tests, once they are compiled
-LONG = ("mx_body_tests",)   # crates whose tests take longer to run than others to compile, which a larger crate takes longer to
+LONG = ("mx_bytes_tests",)   # crates whose tests take longer to run than others to compile, which a larger crate takes longer to
 TEST = re.compile(r"^\s*#\[test\]", re.M)
 
 

@@ -85,7 +85,7 @@ class Item:
         if result.startswith("Option<"):
             return "`None`"
         if result.startswith(("Result<", "io::Result<")):
-            inner = result[result.index("<") + 1:result.rindex(">")]
+            inner = result[result.index("<") + 1:result.rindex(">")].rstrip(", ")
             depth, at = 0, None
             for i, it in enumerate(inner):
                 depth += it in "<([" and 1 or it in ">)]" and -1 or 0
