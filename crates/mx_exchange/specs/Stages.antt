@@ -9,8 +9,8 @@ use Rattle.mx_line.specs.Endings.{is_stop_code}
 use Rattle.mx_exchange.specs.Exchanges.{ExchangeState, IsDue, capped, most_received}
 use Rattle.mx_exchange.specs.Turns.{IsOnTime, MayTouch}
 use Rattle.mx_flow.specs.Streams.{limit_of}
-use Rattle.mx_exchange.specs.declared.delivery.Delivery.{Delivery}
-use Rattle.mx_exchange.specs.declared.delivery.Delivery.TheVariants as delivery
+use Rattle.mx_exchange.specs.declared.handling.Handling.{Handling}
+use Rattle.mx_exchange.specs.declared.handling.Handling.TheVariants as handling
 use Rattle.mx_exchange.specs.declared.exchanges.turns.Before.{Before}
 use Rattle.mx_exchange.specs.declared.exchanges.turns.Before.TheVariants as before
 use Rattle.mx_exchange.specs.declared.exchanges.stages.Live.{Live}
@@ -35,9 +35,9 @@ abbrev pub probe_of : {L : Type 0} → Option (LineState L) → Bool
 probe_of line = unwrap_or (option_map (λ l. l.needs_probe) line) false
 
 -- the most bytes of content that are handed on, and nothing where the response is held
-abbrev pub limit_by : Delivery → Option ℕ
-limit_by delivery.Held = None
-limit_by (delivery.Flowing most_bytes) = Some (limit_of most_bytes)
+abbrev pub limit_by : Handling → Option ℕ
+limit_by handling.Held = None
+limit_by (handling.Flowing most_bytes) = Some (limit_of most_bytes)
 
 -- the link of a stage, its code, whether the link may be taken, how many bytes came, and what was handed on of them
 abbrev pub line_of : {L : Type 0} → Stage L → Option (LineState L)

@@ -52,7 +52,7 @@ abbrev pub Probed : {L : Type 0} → (L → List Answer) → ExchangeState L →
 Probed history t mid = ((t.needs_probe ≡ false) × (mid ≡ t)) ⊎ ProbeBlocks history t mid
 
 -- rule exchange-turn-limits: A turn makes at most one connect, 64 writes and 64 reads, and then asks for another. Where the content is handed
--- on it makes at most 16 reads, so that what a turn hands on has at most 262,144 bytes.
+-- on it makes at most 16 reads, of 262,144 bytes together.
 --
 -- the most reads of one turn, by the limit of the content that is handed on
 abbrev pub most_turn_reads : Option ℕ → ℕ

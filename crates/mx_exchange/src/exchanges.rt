@@ -10,8 +10,8 @@ ghost use Rattle.mx_flow.specs.Streams.{limit_of};
 mod stages;
 pub(crate) mod turns;
 
-use crate::delivery::Delivery;
 use crate::exchanges::stages::{Live, Stage, received};
+use crate::handling::Handling;
 use mx_line::{Line, ReadBuffer};
 use mx_link::Link;
 use mx_request::{Endpoint, Request, is_redirect};
@@ -33,7 +33,7 @@ pub struct Want<'a> {
 /// A request and the link that serves it, if one does.
 pub struct Exchange<L: Link> {
     alloc: Global,
-    delivery: Delivery,
+    handling: Handling,
     about: Snapshot<Request>,
     stage: Stage<L>,
     needs_fresh: bool,
@@ -51,7 +51,7 @@ impl<L: Link> Drop for Exchange<L> {
     fn drop(self) {
         let Exchange {
             alloc: _,
-            delivery: _,
+            handling: _,
             about,
             stage,
             needs_fresh: _,
@@ -79,7 +79,7 @@ impl<L: Link> Model for Exchange<L> {
 
     ghost view = { λ t. record {
       request = t.about.value;
-      limit = limit_by t.delivery;
+      limit = limit_by t.handling;
       link = link_of (line_of t.stage);
       attached = attached_of (line_of t.stage);
       answers = answers_of (line_of t.stage);
@@ -99,8 +99,8 @@ impl<L: Link> Model for Exchange<L> {
     } };
 
     ghost invariant = { λ t. record {
-      stage : IsStage L.history L.asked L.token_of t.about.value (limit_by t.delivery) t.needs_fresh t.failure t.stage;
-      failed : IfSome t.failure (λ c. is_given_code c (limit_by t.delivery) ≡ true);
+      stage : IsStage L.history L.asked L.token_of t.about.value (limit_by t.handling) t.needs_fresh t.failure t.stage;
+      failed : IfSome t.failure (λ c. is_given_code c (limit_by t.handling) ≡ true);
     } };
 }
 
@@ -109,7 +109,7 @@ impl<L: Link> Exchange<L> {
     pub fn new(alloc: Global, request: Request) -> Exchange<L>
         ensures { result ≡ begun None request }
     {
-        Exchange::make(alloc, request, Delivery::Held)
+        Exchange::make(alloc, request, Handling::Held)
     }
 
     /// The same, which keeps the heads alone and hands the content on as it comes. That may have `most_bytes` bytes, and never more than
@@ -117,19 +117,19 @@ impl<L: Link> Exchange<L> {
     pub fn flowing(alloc: Global, request: Request, most_bytes: Option<u64>) -> Exchange<L>
         ensures { result ≡ begun (Some (limit_of most_bytes)) request }
     {
-        Exchange::make(alloc, request, Delivery::Flowing(most_bytes))
+        Exchange::make(alloc, request, Handling::Flowing(most_bytes))
     }
 
     // An exchange of the request, and what becomes of the body.
-    fn make(alloc: Global, request: Request, delivery: Delivery) -> Exchange<L>
-        ensures { result ≡ begun (limit_by delivery) request }
+    fn make(alloc: Global, request: Request, handling: Handling) -> Exchange<L>
+        ensures { result ≡ begun (limit_by handling) request }
     {
         let about = Snapshot::of(&request);
         Exchange {
             alloc,
-            delivery,
+            handling,
             about,
-            stage: Stage::Live(Live::new(alloc, request, delivery)),
+            stage: Stage::Live(Live::new(alloc, request, handling)),
             needs_fresh: false,
             is_started: false,
             failure: None,
@@ -148,7 +148,7 @@ impl<L: Link> Exchange<L> {
     {
         let Exchange {
             alloc: _,
-            delivery: _,
+            handling: _,
             about,
             stage,
             needs_fresh: _,
@@ -186,7 +186,7 @@ impl<L: Link> Exchange<L> {
         ensures { self.new ≡ renewed self.old request }
     {
         self.about = Snapshot::of(&request);
-        let live = Live::new(self.alloc, request, self.delivery);
+        let live = Live::new(self.alloc, request, self.handling);
         drop(mem::replace(&mut self.stage, Stage::Live(live)));
         self.needs_fresh = false;
         self.failure = None;
@@ -219,7 +219,7 @@ impl<L: Link> Exchange<L> {
         }
     }
 
-    /// Gives the code that it ends with at its next turn, as no link can be opened.
+    /// Gives the code that it ends with at its next turn, as no link can be opened, unless its deadline has come by then.
     pub fn fail_link(&mut self, code: Code)
         requires wanted { WantsLink self.old }
         requires code { is_link_code code ≡ true }
@@ -228,8 +228,8 @@ impl<L: Link> Exchange<L> {
         self.failure = Some(code);
     }
 
-    /// Gives the code that it ends with at its next turn, as what takes the content can't go on. Its link is asked nothing more, and isn't
-    /// kept.
+    /// Gives the code that it ends with at its next turn, as what takes the content can't go on, unless its deadline has come by then. Its
+    /// link is asked nothing more, and isn't kept.
     pub fn fail(&mut self, reason: Code)
         requires going { self.old.code ≡ None }
         requires flowing { self.old.limit ≢ None }

@@ -1,8 +1,8 @@
 //! An exchange: one request over one link, turn by turn, and the hop that it ends as.
 #![tactic(auto)]
 
-mod delivery;
 mod exchanges;
+mod handling;
 mod hops;
 pub mod laws;
 

@@ -1,5 +1,5 @@
 -- What a sink takes, and why it takes nothing.
-use Rattle.std.specs.Prelude.{ℕ, List, [], take, codes, Result, Ok, Err}
+use Rattle.std.specs.Prelude.{ℕ, Bool, true, false, List, [], take, codes, Result, Ok, Err}
 use Rattle.mx_types.specs.declared.code.Code.{Code}
 use Rattle.mx_types.specs.declared.code.Code.TheVariants as code
 use Rattle.mx_sink.specs.declared.error.SinkError.{SinkError}
@@ -19,6 +19,12 @@ pub record MemorySinkValue : Type 0 where
 abbrev pub sink_code : SinkError → Code
 sink_code error.WriteError = code.WriteError
 sink_code error.OutOfMemory = code.OutOfMemory
+
+-- whether it is one of them
+abbrev pub is_sink_code : Code → Bool
+is_sink_code code.WriteError = true
+is_sink_code code.OutOfMemory = true
+is_sink_code _ = false
 
 abbrev pub sink_words : SinkError → List ℕ
 sink_words error.WriteError = codes "the content could not be written"

@@ -1,12 +1,13 @@
 //! What becomes of the content of a transfer.
 ghost use Rattle.std.specs.Prelude.{◌≡◌, ◌⊎◌, ℕ, true, List, [], ◌++◌, Option, None, IfSome};
 ghost use Rattle.mx_types.specs.declared.code.Code.{Code as OneCode};
+ghost use Rattle.mx_sink.specs.Outlets.{counted};
+ghost use Rattle.mx_sink.specs.Sinks.{is_sink_code};
 
 use mx_types::Code;
 
 /// What becomes of the content of a response, so that a transfer can be generic in it: the response is held ([`Held`]), or its content is
-/// handed on as it comes ([`Outlet`](crate::Outlet)). A worker that polls a transfer asks it first to make room, and then hands it the
-/// content that came.
+/// handed on as it comes ([`Outlet`](crate::Outlet)).
 pub trait Delivery: Drop {
     /// `None` where the response is held. `Some(most)` where its content is handed on, of at most so many bytes if there is a limit.
     ghost flows: { Self → Option (Option ℕ) };
@@ -47,9 +48,15 @@ pub trait Delivery: Drop {
         ensures failed { IfSome (fault self.old) (λ _. fault self.new ≡ fault self.old) }
         ensures same { (flows self.new ≡ flows self.old) × (target self.new ≡ target self.old) };
 
-    /// The code of its failure, which the transfer ends with, if it failed.
+    /// How many bytes of content were handed to it, held at 18,446,744,073,709,551,615.
+    fn count(&self) -> u64
+        ensures { result ≡ counted (handed self.now) };
+
+    /// The code of its failure, if it failed: 23 or 27. One whose response is held doesn't fail.
     fn fault(&self) -> Option<Code>
-        ensures { result ≡ fault self.now };
+        ensures fault { result ≡ fault self.now }
+        ensures code { IfSome result (λ code. is_sink_code code ≡ true) }
+        ensures held { flows self.now ≡ None → result ≡ None };
 }
 
 /// The delivery of a transfer whose response is held: nothing is handed on.
@@ -76,6 +83,10 @@ impl Delivery for Held {
     }
 
     fn take(&mut self, _content: &mut Vec<u8>) {}
+
+    fn count(&self) -> u64 {
+        0
+    }
 
     fn fault(&self) -> Option<Code> {
         None

@@ -16,7 +16,7 @@ pub enum SinkError {
 }
 
 impl SinkError {
-    /// The code that the transfer ends with.
+    /// Its code: 23 or 27.
     pub fn code(self) -> Code
         ensures { result ≡ sink_code self }
     {

@@ -1,7 +1,7 @@
 //! A sink, and the content that it has had no room for yet.
 ghost use Rattle.std.specs.Prelude.{◌≡◌, ◌≤◌, ◌<◌, ◌⊎◌, ◌↔◌, false, [], ◌++◌, drop, length, take, Some, None, IfSome, IsTrue, option_map, vec_capacity};
 ghost use Rattle.mx_sink.specs.Sinks.{sink_code};
-ghost use Rattle.mx_sink.specs.Outlets.{IsOutlet, IsReady, IsHandedOn, handed_of};
+ghost use Rattle.mx_sink.specs.Outlets.{IsOutlet, IsReady, IsHandedOn, counted, handed_of};
 
 use crate::delivery::Delivery;
 use crate::error::SinkError;
@@ -40,9 +40,8 @@ fn remove_front(bytes: &mut Vec<u8>, count: usize)
     bytes.truncate(rest);
 }
 
-/// Where the content of a transfer goes as it comes: a sink, and the content that the sink has had no room for yet. A worker polls a
-/// transfer, and hands the content that came to the outlet. Where the sink doesn't take all of it, the rest is left, and the outlet has to
-/// make room before the next poll.
+/// Where the content of a transfer goes as it comes: a sink, and the content that the sink has had no room for yet. Where the sink doesn't
+/// take all of what the outlet is handed, the rest is left, and the outlet takes no more until it has made room.
 ///
 /// All content that it was handed is what the sink got and then what is left, also after a failure. Once the sink failed, it gets nothing
 /// more.
@@ -134,13 +133,6 @@ impl<S: Sink> Outlet<S> {
         ensures { result ≡ self.now.failure }
     {
         self.failure
-    }
-
-    /// How many bytes of content were handed to it, held at 18,446,744,073,709,551,615.
-    pub fn count(&self) -> u64
-        ensures { result ≡ self.now.count }
-    {
-        self.count
     }
 
     /// The sink, and the content that it has not taken, in order, by move.
@@ -239,6 +231,13 @@ impl<S: Sink> Delivery for Outlet<S> {
             self.start = taken;
         }
         content.clear();
+    }
+
+    fn count(&self) -> u64
+        ensures count { result ≡ self.now.count }
+        ensures all { result ≡ counted (handed_of S.got self.now) }
+    {
+        self.count
     }
 
     fn fault(&self) -> Option<Code> {

@@ -7,7 +7,7 @@ ghost use Rattle.mx_line.specs.Lines.{IsGoing, MayHandOut};
 ghost use Rattle.mx_exchange.specs.Hops.{MayEnd};
 ghost use Rattle.mx_exchange.specs.Stages.{limit_by, link_of, answers_of, reused_of};
 
-use crate::delivery::Delivery;
+use crate::handling::Handling;
 use crate::hops::Hop;
 use mx_line::Line;
 use mx_link::{Answer, Link};
@@ -42,14 +42,14 @@ pub(super) enum Stage<L: Link> {
 }
 
 impl<L: Link> Live<L> {
-    pub fn new(alloc: Global, request: Request, delivery: Delivery) -> Live<L>
+    pub fn new(alloc: Global, request: Request, handling: Handling) -> Live<L>
         ensures request { result.request ≡ request }
-        ensures limit { result.reader.limit ≡ limit_by delivery }
+        ensures limit { result.reader.limit ≡ limit_by handling }
         ensures begins { (result.reader.wire ≡ []) × (result.reader.judgement.content ≡ []) }
         ensures going { IsGoing request.method [] result.reader }
         ensures line { result.line ≡ None }
     {
-        let reader = delivery.reader(alloc, request.method());
+        let reader = handling.reader(alloc, request.method());
         Live {
             request,
             reader,

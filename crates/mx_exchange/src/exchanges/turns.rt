@@ -95,7 +95,7 @@ impl<L: Link> Exchange<L> {
         ensures { self.new ≡ record (dropped self.old) { code = None; is_kept = false } }
     {
         self.needs_fresh = true;
-        let live = Live::new(self.alloc, request, self.delivery);
+        let live = Live::new(self.alloc, request, self.handling);
         drop(mem::replace(&mut self.stage, Stage::Live(live)));
     }
 
@@ -177,7 +177,7 @@ impl<L: Link> Exchange<L> {
         match line.serve(
             &request,
             &mut reader,
-            self.delivery.most_reads(),
+            self.handling.most_reads(),
             buffer,
             out,
         ) {

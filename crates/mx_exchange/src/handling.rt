@@ -10,24 +10,25 @@ use std::alloc::Global;
 
 /// Whether the response is held, or its content is handed on as it comes.
 #[derive(Clone, Copy)]
-pub(crate) enum Delivery {
+pub(crate) enum Handling {
     /// All its bytes are held.
     Held,
     /// The content is handed on, of at most so many bytes, if there is a limit.
     Flowing(Option<u64>),
 }
 
-impl Delivery {
+impl Handling {
     /// The reader of the response to a request of that method.
     pub(crate) fn reader(self, alloc: Global, method: Method) -> Reader
         ensures begins { result ≡ first_reader method (limit_by self) }
         ensures exact { IsReader result }
     {
         match self {
-            Delivery::Held => Reader::holding(alloc, method),
-            Delivery::Flowing(most_bytes) => Reader::flowing(alloc, method, most_bytes),
+            Handling::Held => Reader::holding(alloc, method),
+            Handling::Flowing(most_bytes) => Reader::flowing(alloc, method, most_bytes),
         }
     }
+
     // rule exchange-turn-limits
     /// The most reads of one turn.
     pub(crate) fn most_reads(self) -> usize
@@ -36,8 +37,8 @@ impl Delivery {
         ensures few { result ≤ 64 }
     {
         match self {
-            Delivery::Held => 64,
-            Delivery::Flowing(_) => 16,
+            Handling::Held => 64,
+            Handling::Flowing(_) => 16,
         }
     }
 }
