@@ -1,6 +1,6 @@
 -- Hops that lead one to the next, and how a chain of them ends.
 use Rattle.std.proofs.Common.{◌≡◌, ℕ, zero, suc, ◌≤◌, ◌<◌, Bool, true, false, List, [], ◌∷◌, ◌++◌, length, Some, None, Ok, Err, inl, inr, ◌⊎◌, refl, sym, ap, ◌∙◌, subst, ◌↔◌, arith}
-use Rattle.std.specs.Prelude.{is_some, if◌then◌else◌, ◌||◌, ◌&&◌, ◌==◌, not, Option, option_map, slice_get}
+use Rattle.std.specs.Prelude.{is_some, if◌then◌else◌, ◌||◌, ◌&&◌, ◌==◌, not, Option, option_map, slice_get, IfSome}
 use Rattle.std.proofs.Math.ListN.{get_or}
 use Rattle.std.proofs.lemmas.Bool.{and_parts}
 use Rattle.std.proofs.lemmas.List.Sums.{sum_by-append}
@@ -14,16 +14,19 @@ use Rattle.mx_request.specs.declared.error.RequestError.TheVariants as refusal
 use Rattle.httparse.specs.Grammar.{ResponseHead, print_response}
 use Rattle.mx_body.specs.Response.{print_heads, StandsAtBody}
 use Rattle.mx_body.specs.Decision.{HasFinalHead, HasHeads}
+use Rattle.mx_body.specs.Parts.{joined}
 use Rattle.mx_body.proofs.EmptyLemmas.{no_final}
 use Rattle.mx_body.proofs.HeadsLemmas.{same_body}
 use Rattle.mx_flow.proofs.StreamProofs.{heads_alone}
+use Rattle.mx_flow.specs.Streams.{limit_of}
 use Rattle.mx_reader.specs.Readers.{IsKept}
+use Rattle.mx_sink.specs.Sinks.{is_sink_code}
 use Rattle.mx_exchange.specs.Hops as hop
 use Rattle.mx_exchange.specs.Exchanges.{HopValue}
 use Rattle.mx_chain.specs.Hops.{is_ok, is_redirect, sends_on, next_of, LeadTo, EndsWith, stays, too_many, refused, memory}
 use Rattle.mx_chain.specs.Chains.{bytes_in, counted}
 use Rattle.mx_chain.specs.Followed.{AreHeld}
-use Rattle.mx_chain.specs.Outcomes.{IsChainEnd, IsOutcome, OutcomeValue, first_of, outcome_of, passed_on, is_outcome_code, is_unfollowed_code}
+use Rattle.mx_chain.specs.Outcomes.{IsChainEnd, IsEnd, IsOutcome, OutcomeValue, first_of, limit_by, outcome_of, passed_on, settled, settled_code, size_by, size_of, is_outcome_code, is_unfollowed_code}
 
 -- one hop more
 pub leads_on : (most : ℕ) (first : RequestValue) (hops : List HopValue) (o : HopValue) (next : RequestValue) → LeadTo most first hops o.request
@@ -74,6 +77,86 @@ made heads_alone first hops last c l few h kept e =
 -- where its responses are held it is an outcome
 pub held_end : (o : OutcomeValue) → IsChainEnd o → o.last.limit ≡ None → IsOutcome o
 held_end o e held = record { value = e.value; request = e.request; leads = e.leads; few = e.few; last = e.last; held = held; ends = e.ends }
+
+-- nothing is handed on where there is no limit of the content
+pub flows_none : (flows : Option (Option ℕ)) (limit : Option ℕ) → limit ≡ limit_by flows → limit ≡ None → flows ≡ None
+flows_none None limit at e = refl
+flows_none (Some most) limit at e = let x : Some (limit_of most) ≡ None = sym at ∙ e in absurd cc
+
+-- where its responses are held what a transfer ended with is an outcome
+pub end_held : (o : OutcomeValue) → IsEnd o → o.last.limit ≡ None → IsOutcome o
+end_held o is held =
+    let same : o.last.limit ≡ is.end.last.limit = ap (λ (x : OutcomeValue). x.last.limit) is.ends.is in
+    let none : is.end.last.limit ≡ None = sym same ∙ held in
+    subst IsOutcome (sym (is.ends.is ∙ ap (λ (f : Option Code). settled f is.end) (is.ends.held none))) (held_end is.end is.chain none)
+
+-- the length in a message of a body that is held
+pub held_size : (o : OutcomeValue) → o.last.limit ≡ None → size_of o ≡ length (joined o.wire o.parts)
+held_size o held = ap (λ (limit : Option ℕ). size_by limit (length (joined o.wire o.parts)) (length o.content)) held
+
+-- the failure of a delivery counts where the chain's code is 0, and there alone
+settled_is : (f c : Code) → ((c ≡ code.Ok) × (settled_code (Some f) c ≡ f)) ⊎ (settled_code (Some f) c ≡ c)
+settled_is f code.Ok = inl (refl, refl)
+settled_is f code.UnsupportedProtocol = inr refl
+settled_is f code.UrlMalformat = inr refl
+settled_is f code.CouldntResolveHost = inr refl
+settled_is f code.CouldntConnect = inr refl
+settled_is f code.WeirdServerReply = inr refl
+settled_is f code.PartialFile = inr refl
+settled_is f code.WriteError = inr refl
+settled_is f code.OutOfMemory = inr refl
+settled_is f code.OperationTimedout = inr refl
+settled_is f code.TooManyRedirects = inr refl
+settled_is f code.GotNothing = inr refl
+settled_is f code.SendError = inr refl
+settled_is f code.RecvError = inr refl
+settled_is f code.BadContentEncoding = inr refl
+settled_is f code.FilesizeExceeded = inr refl
+settled_is f code.TooLarge = inr refl
+
+no_sink_is : (f : Code) → is_sink_code f ≡ true → f ≡ code.Ok → ⊥
+no_sink_is f sinks e = let x : false ≡ true = sym (ap is_sink_code e) ∙ sinks in cc
+
+-- with code 0 nothing failed
+pub settled_ok : (failure : Option Code) (c : Code) → IfSome failure (λ f. is_sink_code f ≡ true) → settled_code failure c ≡ code.Ok → (c ≡ code.Ok) × (failure ≡ None)
+settled_ok None c sinks e = (e, refl)
+settled_ok (Some f) c sinks e = by (settled_is f c)
+  where
+    late : c ≡ code.Ok → (c ≡ code.Ok) × (Some f ≡ None)
+    late ok = absurd (no_sink_is f sinks (sym (ap (settled_code (Some f)) ok) ∙ e))
+
+    by : ((c ≡ code.Ok) × (settled_code (Some f) c ≡ f)) ⊎ (settled_code (Some f) c ≡ c) → (c ≡ code.Ok) × (Some f ≡ None)
+    by (inl so) = late so.0
+    by (inr so) = late (sym so ∙ e)
+
+sink_listed : (f : Code) (l : ℕ) → is_sink_code f ≡ true → is_outcome_code f (Some l) ≡ true
+sink_listed code.Ok l e = cc
+sink_listed code.UnsupportedProtocol l e = cc
+sink_listed code.UrlMalformat l e = cc
+sink_listed code.CouldntResolveHost l e = cc
+sink_listed code.CouldntConnect l e = cc
+sink_listed code.WeirdServerReply l e = cc
+sink_listed code.PartialFile l e = cc
+sink_listed code.WriteError l e = refl
+sink_listed code.OutOfMemory l e = refl
+sink_listed code.OperationTimedout l e = cc
+sink_listed code.TooManyRedirects l e = cc
+sink_listed code.GotNothing l e = cc
+sink_listed code.SendError l e = cc
+sink_listed code.RecvError l e = cc
+sink_listed code.BadContentEncoding l e = cc
+sink_listed code.FilesizeExceeded l e = cc
+sink_listed code.TooLarge l e = cc
+
+-- it is one of the codes of a transfer
+pub settled_listed : (flows : Option (Option ℕ)) (limit : Option ℕ) (failure : Option Code) (c : Code) → limit ≡ limit_by flows → (flows ≡ None → failure ≡ None) → IfSome failure (λ f. is_sink_code f ≡ true)
+    → is_outcome_code c limit ≡ true → is_outcome_code (settled_code failure c) limit ≡ true
+settled_listed flows limit None c at held sinks listed = listed
+settled_listed None limit (Some f) c at held sinks listed = let x : Some f ≡ None = held refl in absurd cc
+settled_listed (Some most) limit (Some f) c at held sinks listed = by (settled_is f c) where
+  by : ((c ≡ code.Ok) × (settled_code (Some f) c ≡ f)) ⊎ (settled_code (Some f) c ≡ c) → is_outcome_code (settled_code (Some f) c) limit ≡ true
+  by (inl so) = subst (λ (x : Code). is_outcome_code x limit ≡ true) (sym so.1) (subst (λ (l : Option ℕ). is_outcome_code f l ≡ true) (sym at) (sink_listed f _ sinks))
+  by (inr so) = subst (λ (x : Code). is_outcome_code x limit ≡ true) (sym so) listed
 
 -- a hop that sends its request on is a whole response with a location
 ok_is : (c : Code) → is_ok c ≡ true → c ≡ code.Ok

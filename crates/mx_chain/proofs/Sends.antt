@@ -1,4 +1,4 @@
--- A transfer may go to another thread where its link may, and an outcome always.
+-- A transfer may go to another thread where its link may, and an outcome where its delivery may.
 use denote.RattleType.{RattleType}
 use denote.Param.Send.{IsSend, struct_send, enum_send, sendable}
 use denote.Struct.Declared.{shape}
@@ -7,6 +7,7 @@ use Rattle.std.proofs.Crossing.{crosses}
 use Rattle.mx_request.proofs.request.Request.TheSendSync.{the_send as request_send}
 use Rattle.mx_request.proofs.endpoint.Endpoint.TheSendSync.{the_send as endpoint_send}
 use Rattle.mx_link.specs.declared.links.Link as link
+use Rattle.mx_sink.specs.declared.delivery.Delivery as delivery
 use Rattle.mx_exchange.proofs.Sends.{hop_send, exchange_send}
 use Rattle.mx_chain.specs.contracts.followed.HopHeads as HopHeads
 use Rattle.mx_chain.specs.contracts.followed.HopHeads.TheInside as HeadsInside
@@ -37,12 +38,12 @@ hops_send =
     let a = hops_inside in
     search (sendable) depth 40 fits 20000
 
-outcome_inside : IsSend OutcomeInside.the_field.row
-outcome_inside = struct_send (shape OutcomeInside.the_type) (hops_send, (hop_send, (search (sendable, crosses) depth 40, tt)))
+outcome_inside : (D : RattleType) (d : delivery.Ghosts D.Denot) → IsSend D → IsSend (OutcomeInside.the_field D d).row
+outcome_inside D d s = struct_send (shape (OutcomeInside.the_type D d)) (hops_send, (hop_send, (search (sendable, crosses) depth 40, (s, (search (sendable, crosses) depth 40, tt)))))
 
-pub outcome_send : IsSend Outcome.the_row
-outcome_send =
-    let a = outcome_inside in
+pub outcome_send : (D : RattleType) (d : delivery.Ghosts D.Denot) → IsSend D → IsSend (Outcome.the_row D d)
+outcome_send D d s =
+    let a = outcome_inside D d s in
     search (sendable) depth 40 fits 20000
 
 inside_field : (L : RattleType) (g : link.Ghosts L.Denot) → IsSend L → IsSend (Inside.the_field L g).row

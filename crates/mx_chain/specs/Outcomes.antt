@@ -1,10 +1,13 @@
 -- What a transfer ends with.
-use Rattle.std.specs.Prelude.{◌≡◌, ℕ, ◌≤◌, nat_lt, ◌||◌, ◌&&◌, Bool, true, false, List, [], ◌∷◌, ◌++◌, length, slice_get, Option, None, IfSome, option_map, if◌then◌else◌}
+use Rattle.std.specs.Prelude.{◌≡◌, ℕ, ◌≤◌, ◌-◌, ◌^◌, min, nat_lt, ◌||◌, ◌&&◌, Bool, true, false, List, [], ◌∷◌, ◌++◌, length, slice_get, Option, Some, None, IfSome, option_map, if◌then◌else◌}
 use Rattle.mx_types.specs.declared.code.Code.{Code}
 use Rattle.mx_types.specs.declared.code.Code.TheVariants as code
 use Rattle.mx_request.specs.Request.{RequestValue, IsRequest}
 use Rattle.mx_body.specs.Decision.{HasHeads}
+use Rattle.mx_body.specs.Parts.{joined}
 use Rattle.mx_body.specs.declared.part.Part.{Part}
+use Rattle.mx_flow.specs.Streams.{limit_of}
+use Rattle.mx_sink.specs.Sinks.{is_sink_code}
 use Rattle.mx_exchange.specs.Hops as hop
 use Rattle.mx_exchange.specs.Exchanges.{HopValue}
 use Rattle.mx_chain.specs.Hops.{is_ok, sends_on, LeadTo, EndsWith}
@@ -65,6 +68,40 @@ outcome_of heads_alone earlier last code = record {
   content = passed_on (first_of earlier last).settings.max_redirects last;
 }
 
+-- the code of a transfer, by the failure of its delivery and the code of its chain: the failure counts where that code is 0
+abbrev pub settled_code : Option Code → Code → Code
+settled_code None c = c
+settled_code (Some failure) code.Ok = failure
+settled_code (Some failure) c = c
+
+-- the end of a chain, with the failure of its delivery
+abbrev pub settled : Option Code → OutcomeValue → OutcomeValue
+settled failure o = record o { code = settled_code failure o.code }
+
+-- what a transfer ended with, by the end of its chain and the failure of its delivery, if that has failed
+pub record EndsAs (end o : OutcomeValue) : Type 0 where
+  pub failure : Option Code
+  pub sinks : IfSome failure (λ c. is_sink_code c ≡ true)
+  pub held : end.last.limit ≡ None → failure ≡ None
+  pub is : o ≡ settled failure end
+
+-- the limit of the content that is handed on, where it is: of at most so many bytes, if it has a limit
+abbrev pub limit_by : Option (Option ℕ) → Option ℕ
+limit_by None = None
+limit_by (Some most_bytes) = Some (limit_of most_bytes)
+
+-- what a delivery was handed of the content that was handed on: all but the rest, for which it had no room
+abbrev pub IsHanded : {D : Type 0} → (D → List ℕ) → D → List ℕ → List ℕ → Type 0
+IsHanded handed d content rest = content ≡ handed d ++ rest
+
+-- the length of the body in a message: of one that was handed on, held at the greatest number of 32 bits
+abbrev pub size_by : Option ℕ → ℕ → ℕ → ℕ
+size_by None held handed = held
+size_by (Some limit) held handed = min handed (2 ^ 32 - 1)
+
+abbrev pub size_of : OutcomeValue → ℕ
+size_of o = size_by o.last.limit (length (joined o.wire o.parts)) (length o.content)
+
 -- the codes that say why a redirect was not followed: as many were followed as may be, the next request is refused, or a growth was
 abbrev pub is_unfollowed_code : Code → Bool
 is_unfollowed_code code.TooManyRedirects = true
@@ -88,6 +125,12 @@ pub record IsChainEnd (o : OutcomeValue) : Type 0 where
   pub ends : EndsWith o.request.settings.max_redirects (length o.earlier) o.last o.code
   -- where memory has all bytes of the hops that were followed the responses are held
   pub kept : o.heads_alone ≡ false → o.last.limit ≡ None
+
+-- what a transfer ended with, whatever became of its content: the end of a chain, with the failure of its delivery, if that has failed
+pub record IsEnd (o : OutcomeValue) : Type 0 where
+  pub end : OutcomeValue
+  pub chain : IsChainEnd end
+  pub ends : EndsAs end o
 
 -- the same, of a transfer whose responses are held
 pub record IsOutcome (o : OutcomeValue) : Type 0 where

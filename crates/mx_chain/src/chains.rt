@@ -312,7 +312,7 @@ impl<L: Link> Chain<L> {
         self.exchange.attach(link, is_reused);
     }
 
-    /// Gives the code that it ends with at its next turn, as no link can be opened.
+    /// Gives the code that it ends with at its next turn, as no link can be opened, unless its deadline has come by then.
     pub fn fail_link(&mut self, code: Code)
         requires wanted { WantsLink self.old.now }
         requires code { is_link_code code ≡ true }
@@ -321,7 +321,8 @@ impl<L: Link> Chain<L> {
         self.exchange.fail_link(code);
     }
 
-    /// Gives the code that it ends with at its next turn, as what takes the content can't go on. Its link is asked nothing more.
+    /// Gives the code that it ends with at its next turn, as what takes the content can't go on, unless its deadline has come by then. Its
+    /// link is asked nothing more.
     pub fn fail(&mut self, code: Code)
         requires going { self.old.code ≡ None }
         requires flowing { self.old.now.limit ≢ None }

@@ -1,13 +1,14 @@
 //! What a chain ends with.
-ghost use Rattle.std.specs.Prelude.{◌≡◌, true, None, length};
+ghost use Rattle.std.specs.Prelude.{◌≡◌, ◌++◌, true, length};
 ghost use Rattle.mx_body.specs.Decision.{HasHeads, HasStatus};
 ghost use Rattle.mx_exchange.specs.Hops as hop;
-ghost use Rattle.mx_chain.specs.Outcomes.{IsChainEnd, hops_of, outcome_of, is_outcome_code};
+ghost use Rattle.mx_chain.specs.Outcomes.{IsChainEnd, hops_of, limit_by, outcome_of, settled, is_outcome_code};
 ghost use Rattle.mx_types.specs.declared.code.Code.TheVariants as code;
 
 use crate::followed::{Hops, heads_of};
 use crate::outcomes::Outcome;
 use mx_exchange::Hop;
+use mx_sink::Delivery;
 use mx_types::Code;
 use std::marker::Model;
 
@@ -101,10 +102,11 @@ impl ChainEnd {
         heads_of(&self.last)
     }
 
-    /// The outcome, by move, of a chain whose responses are held.
-    pub fn into_outcome(self) -> Outcome
-        requires { self.last.limit ≡ None }
-        ensures { result ≡ self }
+    /// What its transfer ended with, by move: with its delivery, and the content that the delivery had no room for, in order.
+    pub fn deliver<D: Delivery>(self, delivery: D, rest: Vec<u8>) -> Outcome<D>
+        requires limit { self.last.limit ≡ limit_by (D.flows delivery) }
+        requires content { self.content ≡ D.handed delivery ++ rest.items }
+        ensures { result ≡ settled (D.fault delivery) self }
     {
         let ChainEnd {
             earlier,
@@ -115,6 +117,8 @@ impl ChainEnd {
             earlier,
             last,
             code,
+            delivery,
+            rest,
         }
     }
 }

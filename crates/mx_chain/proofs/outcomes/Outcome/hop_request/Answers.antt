@@ -6,12 +6,12 @@ use Rattle.mx_chain.proofs.Places.{at_last, before_last}
 use Rattle.mx_chain.proofs.outcomes.Outcome.hop_request.Goals as goal
 
 pub returns-then-i-len : goal.returns-then-i-len
-returns-then-i-len c =
+returns-then-i-len g c =
     let e : c.args.i ≡ length c.self.inside.earlier.all = omega arith in
     rw (← c.self.view_is)
     (ap (λ (x : RequestValue). Some x) c.request.ensures.request ∙ ap (λ (o : Option HopValue). option_map (λ (h : HopValue). h.request) o) (sym (at_last _ _ _ e)))
 
 pub returns : goal.returns
-returns c =
+returns g c =
     let other : c.args.i ≢ length c.self.inside.earlier.all = (λ same. omega arith) in
     rw (← c.self.view_is) (c.request-2.ensures ∙ ap (λ (o : Option HopValue). option_map (λ (h : HopValue). h.request) o) (sym (before_last _ _ _ other)))
