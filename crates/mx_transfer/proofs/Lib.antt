@@ -1,4 +1,4 @@
-pub mod Handing
+mod HandedOn
 pub mod QueuedSends
 pub mod Sends
 pub mod Wakers

@@ -7,7 +7,7 @@ use Rattle.futures.specs.declared.task.Poll.{Poll}
 use Rattle.futures.specs.declared.task.Poll.TheVariants as poll
 use Rattle.mx_link.specs.declared.answers.Answer.{Answer}
 use Rattle.mx_chain.specs.Chains.{ChainState}
-use Rattle.mx_chain.specs.Outcomes.{OutcomeValue}
+use Rattle.mx_chain.specs.Outcomes.{OutcomeValue, EndsAs}
 use Rattle.mx_chain.specs.Steps.{How, Steps, waits, asks, ends}
 use Rattle.mx_transfer.specs.declared.polled.Polled.{Polled}
 use Rattle.mx_transfer.specs.declared.polled.Polled.TheVariants as polled
@@ -21,26 +21,35 @@ pub record TransferState (L : Type 0) : Type 0 where
   pub waker : Option Waker
   pub has_asked : Bool
 
+-- what a poll comes to, by what the turn of its chain comes to: an end is with its delivery
+abbrev pub Delivers : How → How → Type 0
+Delivers (ends end) (ends o) = EndsAs end o
+Delivers waits waits = Unit {0}
+Delivers asks asks = Unit {0}
+Delivers _ _ = ⊥
+
 -- What a poll answers. One that waits has left its task's waker in the transfer, unless none could be made; any other that is pending has
--- asked to be polled again, and says so from then on. All else that is new is the turn's.
+-- asked to be polled again, and says so from then on. What it ended with is the end of its chain, with its delivery. All else that is new is the
+-- turn's.
 abbrev pub PollSo : {L : Type 0} → (L → List Answer) → TransferState L → TransferState L → Poll OutcomeValue → Context → Context → Type 0
-PollSo history old new (poll.Ready o) was is = Steps history old.chain new.chain (ends o) × (new ≡ record old { chain = new.chain; has_asked = false })
+PollSo history old new (poll.Ready o) was is =
+    ((end : OutcomeValue) × Steps history old.chain new.chain (ends end) × EndsAs end o) × (new ≡ record old { chain = new.chain; has_asked = false })
 PollSo history old new poll.Pending was is =
     (Steps history old.chain new.chain waits × (new ≡ record old { chain = new.chain; waker = new.waker; has_asked = false }) × IsLeftIn was is new.waker)
     ⊎ (Steps history old.chain new.chain asks × (new ≡ record old { chain = new.chain; has_asked = true }) × (is.is_woken ≡ true))
 
 -- what a poll came to
-abbrev pub how_of : Polled → How
+abbrev pub how_of : {D : Type 0} → Polled D → How
 how_of polled.Waits = waits
 how_of polled.Asks = asks
 how_of (polled.Ended o) = ends o
 
 -- this holds for the outcome, where the poll ended the transfer
-abbrev pub IfEnded : Polled → (OutcomeValue → Type 0) → Type 0
+abbrev pub IfEnded : {D : Type 0} → Polled D → (OutcomeValue → Type 0) → Type 0
 IfEnded (polled.Ended o) P = P o
 IfEnded _ P = Unit {0}
 
 -- where it goes on
-abbrev pub IfGoing : Polled → Type 0 → Type 0
+abbrev pub IfGoing : {D : Type 0} → Polled D → Type 0 → Type 0
 IfGoing (polled.Ended o) P = Unit {0}
 IfGoing _ P = P

@@ -2,13 +2,11 @@
 //! task that polls it.
 #![tactic(auto)]
 
-mod ended;
-mod outgoing;
+mod handing;
 mod polled;
 mod queued;
 mod transfers;
 
-pub use crate::ended::Ended;
 pub use crate::polled::Polled;
 pub use crate::queued::Queued;
 pub use crate::transfers::Transfer;

@@ -1,28 +1,30 @@
 //! A transfer that waits for a worker.
-ghost use Rattle.std.specs.Prelude.{◌≡◌, None, true, false, IfOk, IfErr};
+ghost use Rattle.std.specs.Prelude.{◌≡◌, [], None, true, false, IfOk, IfErr};
+ghost use Rattle.mx_transfer.specs.Deliveries.{begun_for};
 
 use crate::transfers::Transfer;
 use mx_link::Link;
 use mx_request::Request;
+use mx_sink::{Delivery, Held};
 use mx_types::Work;
 use std::alloc::{AllocFailed, Global};
 use std::marker::Model;
 
 /// A transfer that has not ended, as it waits for a worker. It is boxed, since it goes through the multi handle and from list to list of a
 /// worker. Contracts see the transfer.
-pub struct Queued<L: Link> {
-    transfer: Box<Transfer<L>>,
+pub struct Queued<L: Link, D: Delivery = Held> {
+    transfer: Box<Transfer<L, D>>,
 }
 
 // Written out, and not derived: a crate that drops queued work cites its proof.
-impl<L: Link> Drop for Queued<L> {
+impl<L: Link, D: Delivery> Drop for Queued<L, D> {
     fn drop(self) {
         let Queued { transfer } = self;
         drop(transfer);
     }
 }
 
-impl<L: Link> Model for Queued<L> {
+impl<L: Link, D: Delivery> Model for Queued<L, D> {
     ghost use Rattle.std.specs.Prelude.{◌≡◌, None};
     ghost use Rattle.mx_transfer.specs.Transfers.{TransferState};
 
@@ -33,49 +35,82 @@ impl<L: Link> Model for Queued<L> {
     ghost invariant = { λ q. q.transfer.value.chain.code ≡ None };
 }
 
-impl<L: Link> Work for Queued<L> {
+impl<L: Link, D: Delivery> Work for Queued<L, D> {
     ghost use Rattle.mx_request.specs.Request.{request_origin};
 
     ghost origin = { λ q. request_origin q.chain.request };
 }
 
-impl<L: Link> Queued<L> {
+impl<L: Link> Queued<L, Held> {
     /// A transfer of the request, which has not started, and keeps all bytes of the hops that it follows. What its polls grow comes from
     /// `alloc`, as the transfer itself does. Where that memory is refused, the request comes back.
-    pub fn new(alloc: Global, request: Request) -> Result<Queued<L>, AllocFailed<Request>>
+    pub fn new(alloc: Global, request: Request) -> Result<Queued<L, Held>, AllocFailed<Request>>
         ensures request { IfOk result (λ q. q.chain.request ≡ request) }
         ensures whole { IfOk result (λ q. q.chain.heads_alone ≡ false) }
         ensures unstarted { IfOk result (λ q. (q.chain.now.is_started ≡ false) × (q.chain.code ≡ None) × (q.chain.now.deadline ≡ None)) }
         ensures refused { IfErr result (λ e. e.value ≡ request) }
     {
-        Queued::boxed(alloc, Transfer::new(alloc, request))
+        match Queued::boxed(alloc, Transfer::new(alloc, request)) {
+            Ok(queued) => Ok(queued),
+            Err(refused) => Err(AllocFailed {
+                value: refused.value.0,
+            }),
+        }
     }
 
     /// The same, which keeps of each hop that it follows its heads alone: the body is freed before the next hop begins.
-    pub fn keeping_heads(alloc: Global, request: Request) -> Result<Queued<L>, AllocFailed<Request>>
+    pub fn keeping_heads(
+        alloc: Global,
+        request: Request,
+    ) -> Result<Queued<L, Held>, AllocFailed<Request>>
         ensures request { IfOk result (λ q. q.chain.request ≡ request) }
         ensures heads { IfOk result (λ q. q.chain.heads_alone ≡ true) }
         ensures unstarted { IfOk result (λ q. (q.chain.now.is_started ≡ false) × (q.chain.code ≡ None) × (q.chain.now.deadline ≡ None)) }
         ensures refused { IfErr result (λ e. e.value ≡ request) }
     {
-        Queued::boxed(alloc, Transfer::keeping_heads(alloc, request))
+        match Queued::boxed(alloc, Transfer::keeping_heads(alloc, request)) {
+            Ok(queued) => Ok(queued),
+            Err(refused) => Err(AllocFailed {
+                value: refused.value.0,
+            }),
+        }
+    }
+}
+
+impl<L: Link, D: Delivery> Queued<L, D> {
+    /// A transfer of the request, which has not started, and keeps of each hop that it follows its heads alone. Its response is held, or its
+    /// content is handed to the delivery, which has none yet, as it comes. Where memory for it is refused, both come back.
+    pub fn delivering(
+        alloc: Global,
+        request: Request,
+        delivery: D,
+    ) -> Result<Queued<L, D>, AllocFailed<(Request, D)>>
+        requires { D.handed delivery ≡ [] }
+        ensures chain { IfOk result (λ q. q.chain ≡ begun_for (D.flows delivery) request) }
+        ensures request { IfOk result (λ q. q.chain.request ≡ request) }
+        ensures refused { IfErr result (λ e. e.value.0 ≡ request) }
+    {
+        Queued::boxed(alloc, Transfer::delivering(alloc, request, delivery))
     }
 
-    // The transfer, which has not ended, in a box; or its request.
-    fn boxed(alloc: Global, transfer: Transfer<L>) -> Result<Queued<L>, AllocFailed<Request>>
+    // The transfer, which has not ended, in a box; or its request and its delivery.
+    fn boxed(
+        alloc: Global,
+        transfer: Transfer<L, D>,
+    ) -> Result<Queued<L, D>, AllocFailed<(Request, D)>>
         requires { transfer.chain.code ≡ None }
         ensures same { IfOk result (λ q. q ≡ transfer) }
-        ensures refused { IfErr result (λ e. e.value ≡ transfer.chain.request) }
+        ensures refused { IfErr result (λ e. e.value.0 ≡ transfer.chain.request) }
     {
         match Box::new(alloc, transfer) {
             Ok(transfer) => Ok(Queued { transfer }),
             Err(refused) => Err(AllocFailed {
-                value: refused.value.into_request(),
+                value: refused.value.into_parts(),
             }),
         }
     }
 
-    /// The request, by move. A link that serves it is dropped.
+    /// The request, by move. A link that serves it is dropped, and its delivery.
     pub fn into_request(self) -> Request
         ensures { result ≡ self.chain.request }
     {
@@ -84,7 +119,7 @@ impl<L: Link> Queued<L> {
     }
 
     /// A transfer that a worker has claimed and polled, to be given back. It has not ended.
-    pub fn of(transfer: Box<Transfer<L>>) -> Queued<L>
+    pub fn of(transfer: Box<Transfer<L, D>>) -> Queued<L, D>
         requires { transfer.value.chain.code ≡ None }
         ensures { result ≡ transfer.value }
     {
@@ -92,7 +127,7 @@ impl<L: Link> Queued<L> {
     }
 
     /// The transfer, by move, for a worker that polls it itself. It has not ended.
-    pub fn into_transfer(self) -> Box<Transfer<L>>
+    pub fn into_transfer(self) -> Box<Transfer<L, D>>
         ensures same { result.value ≡ self }
         ensures running { result.value.chain.code ≡ None }
     {

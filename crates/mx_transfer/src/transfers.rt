@@ -1,28 +1,31 @@
 //! A transfer as a future.
-ghost use Rattle.std.specs.Prelude.{◌≡◌, ◌≢◌, ◌≤◌, ◌↔◌, ◌⊎◌, [], None, Some, true, false, IsSome, IfSome, is_some, option_map, option_copied};
+ghost use Rattle.std.specs.Prelude.{◌≡◌, ◌≢◌, ◌≤◌, ◌↔◌, ◌⊎◌, ◌++◌, ℕ, List, [], None, Some, true, false, IsSome, IfSome, is_some, option_map, option_copied};
 ghost use Rattle.mx_types.specs.Code.{is_link_code};
 ghost use Rattle.mx_line.specs.Endings.{IsUndecided};
 ghost use Rattle.mx_exchange.specs.Exchanges.{WantsLink, IsDue, IsExchange, KeepsToken, attached, clocked};
 ghost use Rattle.mx_chain.specs.Chains.{IsChain, begun, begun_with_heads, received_of, home_of};
 ghost use Rattle.mx_transfer.specs.Transfers.{TransferState};
 
-use crate::ended::Ended;
-use crate::outgoing::Outgoing;
+use crate::handing::{end_of, hand_on};
 use futures::Future;
 use futures::task::{Context, Poll, Source, Waker};
-use mx_chain::{Chain, ReadBuffer, Stepped, Want};
+use mx_chain::{Chain, Outcome, ReadBuffer, Stepped, Want};
 use mx_link::Link;
 use mx_request::{Endpoint, Request};
 use mx_sink::{Delivery, Held};
 use mx_types::{Code, Work};
 use std::alloc::Global;
 use std::marker::Model;
+use std::mem;
 
 /// A request, its hops, what becomes of the content of its response, and what it waits for: its link and its deadline.
 pub struct Transfer<L: Link, D: Delivery = Held> {
+    alloc: Global,
     chain: Chain<L>,
     // There until it has ended.
-    outgoing: Option<Outgoing<D>>,
+    delivery: Option<D>,
+    // The content that came since the delivery last had room, in order.
+    rest: Vec<u8>,
     link_source: Source,
     time_source: Source,
     // Of the task that polls it, for both sources.
@@ -35,15 +38,18 @@ pub struct Transfer<L: Link, D: Delivery = Held> {
 impl<L: Link, D: Delivery> Drop for Transfer<L, D> {
     fn drop(self) {
         let Transfer {
+            alloc: _,
             chain,
-            outgoing,
+            delivery,
+            rest,
             link_source: _,
             time_source: _,
             waker,
             has_asked: _,
         } = self;
         drop(chain);
-        drop(outgoing);
+        drop(delivery);
+        drop(rest);
         drop(waker);
     }
 }
@@ -62,7 +68,7 @@ impl<L: Link, D: Delivery> Model for Transfer<L, D> {
       has_asked = t.has_asked;
     } };
 
-    ghost invariant = { λ t. IsDelivering D.flows D.handed t.chain t.outgoing };
+    ghost invariant = { λ t. IsDelivering D.flows D.handed t.chain t.delivery t.rest.items };
 }
 
 impl<L: Link, D: Delivery> Work for Transfer<L, D> {
@@ -96,7 +102,8 @@ impl<L: Link, D: Delivery> Transfer<L, D> {
     ghost use Rattle.futures.specs.Task.{Hears, IsArmed, Keeps};
     ghost use Rattle.futures.specs.Slot.{IsLeftIn};
     ghost use Rattle.futures.specs.declared.task.Poll.TheVariants as Poll;
-    ghost use Rattle.mx_transfer.specs.Deliveries.{begun_for, limit_by};
+    ghost use Rattle.mx_chain.specs.Outcomes.{limit_by};
+    ghost use Rattle.mx_transfer.specs.Deliveries.{begun_for, MakesRoom};
 
     /// A transfer of the request, which keeps of each hop that it follows its heads alone. Its response is held, or its content is handed to
     /// the delivery, which has none yet, as it comes.
@@ -123,8 +130,10 @@ impl<L: Link, D: Delivery> Transfer<L, D> {
         ensures unasked { result.has_asked ≡ false }
     {
         Transfer {
+            alloc,
             chain,
-            outgoing: Some(Outgoing::new(alloc, delivery)),
+            delivery: Some(delivery),
+            rest: Vec::new(alloc),
             link_source: Source::new(),
             time_source: Source::new(),
             waker: None,
@@ -132,22 +141,82 @@ impl<L: Link, D: Delivery> Transfer<L, D> {
         }
     }
 
-    /// The request that was handed in, by move, of a transfer that has not ended. Its links are dropped.
+    /// The request that was handed in, by move, of a transfer that has not ended. Its links and its delivery are dropped.
     pub fn into_request(self) -> Request
         requires { self.chain.code ≡ None }
         ensures { result ≡ self.chain.request }
     {
+        let (request, delivery) = self.into_parts();
+        drop(delivery);
+        request
+    }
+
+    /// The request that was handed in, and the delivery, by move, of a transfer that has not ended. Its links are dropped.
+    pub fn into_parts(self) -> (Request, D)
+        requires { self.chain.code ≡ None }
+        ensures request { result.0 ≡ self.chain.request }
+        ensures limit { self.chain.now.limit ≡ limit_by (D.flows result.1) }
+        ensures handed { (rest : List ℕ) × (self.chain.content ≡ D.handed result.1 ++ rest) }
+    {
         let Transfer {
+            alloc: _,
             chain,
-            outgoing,
+            delivery,
+            rest,
             link_source: _,
             time_source: _,
             waker,
             has_asked: _,
         } = self;
-        drop(outgoing);
+        drop(rest);
         drop(waker);
-        chain.into_request()
+        match delivery {
+            Some(delivery) => (chain.into_request(), delivery),
+            None => unreachable!(),
+        }
+    }
+
+    /// Its delivery, until it has ended. What that was handed is a prefix of the content that was handed on.
+    pub fn delivery(&self) -> Option<&D>
+        ensures there { self.now.chain.code ≡ None → IsSome result }
+        ensures handed { self.now.chain.code ≡ None → IfSome result (λ d. (rest : List ℕ) × (self.now.chain.content ≡ D.handed d.now ++ rest)) }
+    {
+        self.delivery.as_ref()
+    }
+
+    /// Has the delivery pass on what it has left. The answer is whether the transfer may be polled as one that isn't paused: the delivery takes
+    /// content now, as it always does where the response is held. Where the delivery has failed the transfer ends with its code at the next
+    /// poll, unless its deadline has come by then.
+    pub fn make_room(&mut self) -> bool
+        requires { self.old.chain.code ≡ None }
+        ensures room { MakesRoom self.old.chain self.new.chain result }
+        ensures running { self.new.chain.code ≡ None }
+        ensures request { self.new.chain.request ≡ self.old.chain.request }
+        ensures same { self.new ≡ record self.old { chain = self.new.chain } }
+    {
+        let Some(delivery) = &mut self.delivery else {
+            unreachable!()
+        };
+        let has_room = delivery.make_room();
+        if has_room {
+            return true;
+        }
+        if let Some(code) = delivery.fault() {
+            self.chain.fail(code);
+        }
+        false
+    }
+
+    /// Gives the memory of the content, and takes this one in its place, as who lends one does before a poll and after it. Both are empty.
+    /// Where the delivery had no room for content that came, it stays.
+    pub fn swap_window(&mut self, other: &mut Vec<u8>)
+        requires { other.old.items ≡ [] }
+        ensures same { self.new ≡ self.old }
+        ensures empty { other.new.items ≡ [] }
+    {
+        if self.rest.is_empty() {
+            mem::swap(&mut self.rest, other);
+        }
     }
 
     /// The link that it wants, where it wants one.
@@ -285,7 +354,7 @@ impl<L: Link, D: Delivery> Transfer<L, D> {
     }
 
     // Registers with what the transfer waits for: its deadline, and its link. One waker is left, for both.
-    fn wait(&mut self, cx: &mut Context<'_>) -> Poll<Ended<D>>
+    fn wait(&mut self, cx: &mut Context<'_>) -> Poll<Outcome<D>>
         ensures pending { result ≡ Poll.Pending }
         ensures same { self.new ≡ record self.old { waker = self.new.waker } }
         ensures armed { IsArmed cx.new }
@@ -300,14 +369,14 @@ impl<L: Link, D: Delivery> Transfer<L, D> {
 }
 
 impl<L: Link, D: Delivery> Future for Transfer<L, D> {
-    type Output = Ended<D>;
+    type Output = Outcome<D>;
 
     ghost use Rattle.std.specs.Prelude.{◌≡◌, ◌≢◌, ◌≤◌, ◌⊎◌, ℕ, None, Some, IsSome};
     ghost use Rattle.futures.specs.Task.{Covers, Keeps};
     ghost use Rattle.futures.specs.Poll.{IfReady, OnPending};
     ghost use Rattle.mx_types.specs.declared.code.Code.TheVariants as Code;
     ghost use Rattle.mx_chain.specs.Chains.{bytes_in};
-    ghost use Rattle.mx_chain.specs.Outcomes.{IsChainEnd, hops_of};
+    ghost use Rattle.mx_chain.specs.Outcomes.{hops_of};
     ghost use Rattle.mx_transfer.specs.Transfers.{PollSo};
 
     ghost can_poll = { λ t. t.chain.code ≡ None };
@@ -316,8 +385,9 @@ impl<L: Link, D: Delivery> Future for Transfer<L, D> {
 
     ghost gives = { λ t outcome. outcome.request ≡ t.chain.request };
 
-    /// Takes one turn. The content that it hands on goes to the delivery, once that has room.
-    fn poll(&mut self, cx: &mut Context<'_>) -> Poll<Ended<D>>
+    /// Takes one turn. The delivery, if it has room then, is handed what the turn and those before it have handed on. The code of what the
+    /// transfer ended with is that of its chain; where that is 0 and the delivery has failed, it is the failure's.
+    fn poll(&mut self, cx: &mut Context<'_>) -> Poll<Outcome<D>>
         requires { self.old.chain.code ≡ None }
         ensures value { IfReady result (λ outcome. outcome.request ≡ self.old.chain.request) }
         ensures again { OnPending result (self.new.chain.code ≡ None) }
@@ -327,31 +397,30 @@ impl<L: Link, D: Delivery> Future for Transfer<L, D> {
         ensures turn { PollSo L.history self.old self.new result cx.old cx.new }
         // 28 comes where the deadline is due, and only there
         ensures late { IfReady result (λ outcome. (outcome.code ≡ Code.OperationTimedout) ↔ IsDue (clocked self.old.chain.now).deadline self.old.chain.now.moment) }
-        ensures ended { IfReady result (λ outcome. self.new.chain.code ≡ Some outcome.code) }
+        ensures ended { IfReady result (λ outcome. IsSome self.new.chain.code) }
         // a link that is left has an endpoint
         ensures home { IfReady result (λ outcome. self.new.chain.link ≢ None → IsSome self.new.chain.home) }
         ensures received { IfReady result (λ outcome. received_of self.new.chain ≡ bytes_in (hops_of outcome)) }
         // the count of bytes never falls
         ensures counted { received_of self.old.chain ≤ received_of self.new.chain }
-        ensures outcome { IfReady result IsChainEnd }
         ensures token { KeepsToken L.token_of self.old.chain.now.link self.new.chain.now.link }
         ensures known { IsChain self.new.chain }
         ensures hop { IsExchange L.history L.asked L.token_of self.new.chain.now }
         ensures undecided { OnPending result (IsUndecided self.new.chain.now.limit self.new.chain.now.request.method self.new.chain.now.answers) }
     {
         self.has_asked = false;
-        let Some(outgoing) = &mut self.outgoing else {
+        let stepped = self.chain.turn(&mut self.rest);
+        let Some(delivery) = &mut self.delivery else {
             unreachable!()
         };
-        let stepped = self.chain.turn(&mut outgoing.rest);
-        outgoing.hand_on();
+        hand_on(delivery, &mut self.rest);
         match stepped {
-            Stepped::Ended(end) => {
-                let Some(outgoing) = self.outgoing.take() else {
-                    unreachable!()
-                };
-                Poll::Ready(outgoing.end(end))
-            }
+            Stepped::Ended(end) => Poll::Ready(end_of(
+                self.alloc,
+                end,
+                self.delivery.take(),
+                &mut self.rest,
+            )),
             Stepped::Asks => {
                 self.has_asked = true;
                 cx.yield_now()

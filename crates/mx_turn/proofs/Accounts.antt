@@ -150,7 +150,7 @@ module _ (p : Ticket → Bool) where
           let mid : Worker L = does w (looks h.ticket (Some look.Gone)) in
           let q = quiet-looks h.ticket (Some look.Gone) in
           subst (λ x. Owes x n) (sym e) (gives_back_step h r mid n (owes_quiet w mid (one h.ticket + n) _ q o refl refl refl))
-      looks_step now h w v n (serves seen ready new idle left said how ne ready_is steps keeping settles) o =
+      looks_step now h w v n (serves seen room offered ready new idle left said went how ne makes ready_is steps delivers keeping settles) o =
           let ds = looks h.ticket seen ∷ notes h.ticket h.slot (received_of new) ∷ [] in
           let q : IsQuiet ds = quiet-append (looks h.ticket seen ∷ []) _ (quiet-looks h.ticket seen) (quiet-notes h.ticket h.slot (received_of new)) in
           let mid : Worker L = record w { idle = left; did = w.did ++ ds; said = w.said ++ said } in

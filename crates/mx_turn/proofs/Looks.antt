@@ -114,7 +114,7 @@ module _ (p : Ticket → Bool) where
           let mid : Worker L = does w (looks h.ticket (Some look.Gone)) in
           let first = did_more w mid (looks h.ticket (Some look.Gone) ∷ []) (one h.ticket) refl (omega arith) refl in
           looked_as w _ v (one h.ticket) e (looked_on w mid (does mid (gives_back h r)) (one h.ticket) 0 (one h.ticket) (omega arith) first (gave h r mid))
-      looked now h w v (serves seen ready new idle left said how ne ready_is steps keeping settles) =
+      looked now h w v (serves seen room offered ready new idle left said went how ne makes ready_is steps delivers keeping settles) =
           let ds = looks h.ticket seen ∷ notes h.ticket h.slot (received_of new) ∷ [] in
           let mid : Worker L = record w { idle = left; did = w.did ++ ds; said = w.said ++ said } in
           looked_on w mid v (one h.ticket) 0 (one h.ticket) (omega arith) (did_more w mid ds (one h.ticket) refl (omega arith) refl)
@@ -208,7 +208,7 @@ module _ {L : Type 0} where
   module _ (history : L → List Answer) (token_of : L → ℕ) where
     looks_stopping : (now : ℕ) (h : Held L) (w v : Worker L) → LooksAt history token_of now h w v → v.is_stopping ≡ w.is_stopping
     looks_stopping now h w v (lets_go r e) = ap (λ x. x.is_stopping) e
-    looks_stopping now h w v (serves seen ready new idle left said how ne ready_is steps keeping settles) = settles_stopping _ _ _ _ v how settles
+    looks_stopping now h w v (serves seen room offered ready new idle left said went how ne makes ready_is steps delivers keeping settles) = settles_stopping _ _ _ _ v how settles
 
     through_stopping : (last : ℕ) (v : Worker L) (at : ℕ) (new : Bool) (todo : List (Held L)) (w : Worker L) → GoesThrough history token_of last v at new todo w → v.is_stopping ≡ w.is_stopping
     through_stopping last v at new todo w (through is_new) = refl

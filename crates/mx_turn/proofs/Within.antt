@@ -51,7 +51,7 @@ module _ {L : Type 0} where
   module _ (history : L → List Answer) (token_of : L → ℕ) where
     pub looks_step : (now : ℕ) (k : Held L) (w v : Worker L) (n : ℕ) → LooksAt history token_of now k w v → Fits w (1 + n) → Fits v n
     looks_step now k w v n (lets_go r e) h = subst (λ x. Fits x n) (sym e) (omega arith)
-    looks_step now k w v n (serves seen ready new idle left said how ne ready_is steps keeping settles) h = settles_step (record k { transfer = unlinked new }) _ _ _ v how n settles h
+    looks_step now k w v n (serves seen room offered ready new idle left said went how ne makes ready_is steps delivers keeping settles) h = settles_step (record k { transfer = unlinked new }) _ _ _ v how n settles h
 
     through_step : (last : ℕ) (v : Worker L) (at : ℕ) (new : Bool) (todo : List (Held L)) (w : Worker L) → GoesThrough history token_of last v at new todo w → Fits w (length todo) → Fits v 0
     through_step last v at new todo w (through is_new) h = h

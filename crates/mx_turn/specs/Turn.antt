@@ -13,6 +13,8 @@ use Rattle.mx_exchange.specs.Exchanges.{WantsLink, IsDue, attached}
 use Rattle.mx_chain.specs.Chains.{ChainState, received_of, home_of}
 use Rattle.mx_chain.specs.Outcomes.{OutcomeValue}
 use Rattle.mx_chain.specs.Steps.{How, waits, asks, ends, Steps}
+use Rattle.mx_transfer.specs.Deliveries.{MakesRoom}
+use Rattle.mx_transfer.specs.Transfers.{Delivers}
 use Rattle.mx_gate.specs.Said.{Said, told, asked, opened, lacked, waited}
 use Rattle.mx_turn.specs.Workers.{Held, SetAside, Finish, lacking, Return, claims, looks, notes, finishes, gives_back, Worker, in_hand, does, hears, holds}
 
@@ -165,6 +167,7 @@ abbrev pub Readies : {L : Type 0} → (L → List Answer) → (L → ℕ) → Bo
 Readies history token_of true t new idle left said = Supplied history token_of t new idle left said
 Readies history token_of false t new idle left said = (new ≡ t) × (left ≡ idle) × (said ≡ [])
 
+-- rule turn-room: A transfer whose delivery has no room, or has failed, is as one that is paused.
 -- rule turn-gone: A transfer that is gone is requeued with its link, so that its claim comes back.
 -- rule turn-progress: What is noted is the count of the bytes that the transfer has received, after its poll.
 --
@@ -172,13 +175,17 @@ Readies history token_of false t new idle left said = (new ≡ t) × (left ≡ i
 pub data LooksAt {L : Type 0} (history : L → List Answer) (token_of : L → ℕ) (now : ℕ) (h : Held L) (w v : Worker L) : Type 0 where
   -- one that is gone is given back as it is, with its link, and is held no more
   lets_go : (r : Return) → v ≡ does (does w (looks h.ticket (Some look.Gone))) (gives_back h r) → LooksAt history token_of now h w v
-  -- Any other is prepared, gets a link where it goes on, and is polled once. The count of its bytes is noted, the link that a hop left is
-  -- kept, and it is held on or its end is handed in.
-  serves : (seen : Option Look) (ready new : ChainState L) (idle left : Idle L) (said : List Said) (how : How) → seen ≢ Some look.Gone
-      → Readies history token_of (is_go seen) (prepared now (is_go seen) h.transfer) ready w.idle idle said
-      → Steps history ready new how
+  -- The delivery of any other makes room for content. The transfer is prepared, gets a link where it goes on, and is polled once; it goes on
+  -- where the look says so and there is room. The count of its bytes is noted, the link that a hop left is kept, and it is held on or its end
+  -- is handed in.
+  serves : (seen : Option Look) (room : Bool) (offered ready new : ChainState L) (idle left : Idle L) (said : List Said) (went how : How)
+      → seen ≢ Some look.Gone
+      → MakesRoom h.transfer offered room
+      → Readies history token_of (is_go seen && room) (prepared now (is_go seen && room) offered) ready w.idle idle said
+      → Steps history ready new went
+      → Delivers went how
       → Keeps new idle left
-      → Settles (record h { transfer = unlinked new }) (is_go seen) (is_delayed said)
+      → Settles (record h { transfer = unlinked new }) (is_go seen && room) (is_delayed said)
       (record w { idle = left; did = w.did ++ looks h.ticket seen ∷ notes h.ticket h.slot (received_of new) ∷ []; said = w.said ++ said }) v how
       → LooksAt history token_of now h w v
 

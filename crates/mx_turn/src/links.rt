@@ -9,6 +9,7 @@ use crate::idle::IdleCache;
 use mx_gate::Gate;
 use mx_link::Link;
 use mx_request::Endpoint;
+use mx_sink::Delivery;
 use mx_transfer::Transfer;
 use mx_types::{Code, OutOfMemory};
 use std::alloc::Global;
@@ -38,7 +39,7 @@ impl<L: Link> Model for Links<L> {
 }
 
 // Hands the transfer what was opened for it: a link, as one that was never in use, or the code of why there is none.
-fn give<L: Link>(transfer: &mut Transfer<L>, opened: Result<L, Code>)
+fn give<L: Link, D: Delivery>(transfer: &mut Transfer<L, D>, opened: Result<L, Code>)
     requires wanted { WantsLink transfer.old.chain.now }
     requires code { IfErr opened (λ code. is_link_code code ≡ true) }
     ensures given { MatchResult opened (λ link. transfer.new.chain ≡ served_by transfer.old.chain link false) (λ code. transfer.new.chain ≡ unserved transfer.old.chain code) }
@@ -117,7 +118,11 @@ impl<L: Link> Links<L> {
     /// the gate opens. Where too many files are open for that, all idle links are dropped, and the gate opens it once more, where it says
     /// that it can. Where it fails, the transfer gets the code of why. The answer is whether the gate says that none can be opened yet: then
     /// it is given none.
-    pub fn supply<G: Gate<Link = L>>(&mut self, gate: &mut G, transfer: &mut Transfer<L>) -> bool
+    pub fn supply<G: Gate<Link = L>, D: Delivery>(
+        &mut self,
+        gate: &mut G,
+        transfer: &mut Transfer<L, D>,
+    ) -> bool
         ensures supplied { Supplies L.history L.token_of transfer.old.chain transfer.new.chain self.old self.new (G.said gate.old) (G.said gate.new) result }
         ensures same { transfer.new ≡ record transfer.old { chain = transfer.new.chain } }
         ensures request { transfer.new.chain.request ≡ transfer.old.chain.request }
@@ -144,7 +149,7 @@ impl<L: Link> Links<L> {
     // rule redirect-idle-link
     /// Keeps the link that a hop of the transfer has left, where it may serve again. It is dropped where memory for a copy of its endpoint
     /// is refused; no clause says that it is dropped there alone.
-    pub fn keep(&mut self, transfer: &mut Transfer<L>)
+    pub fn keep<D: Delivery>(&mut self, transfer: &mut Transfer<L, D>)
         ensures kept { Keeps transfer.old.chain self.old self.new }
         ensures rest { transfer.new ≡ record transfer.old { chain = unlinked transfer.old.chain } }
         ensures limit { self.new.limit ≡ self.old.limit }
