@@ -4,6 +4,7 @@ use denote.Param.Send.{IsSend, IsSync, struct_send, sendable}
 use denote.Struct.Declared.{shape}
 use Rattle.std.proofs.Crossing.{crosses}
 use Rattle.mx_link.specs.declared.links.Link as link
+use Rattle.mx_sink.specs.declared.delivery.Delivery as delivery
 use Rattle.mx_crew.specs.contracts.worked.Worked as Worked
 use Rattle.mx_crew.specs.contracts.worked.Worked.TheInside as WorkedInside
 use Rattle.mx_crew.specs.contracts.gate.Common as Common
@@ -22,10 +23,10 @@ common_sync =
     let b = shortages_sync in
     search (sendable, crosses) depth 40 fits 20000
 
-worked_inside : (L G : RattleType) (g : link.Ghosts L.Denot) → IsSend G → IsSend (WorkedInside.the_field L G g).row
-worked_inside L G g s = struct_send (shape (WorkedInside.the_type L G g)) (search (sendable, crosses) depth 40, (s, (search (sendable, crosses) depth 40, (search (sendable, crosses) depth 40, (search (sendable, crosses) depth 40, tt)))))
+worked_inside : (L G D : RattleType) (g : link.Ghosts L.Denot) (d : delivery.Ghosts D.Denot) → IsSend G → IsSend (WorkedInside.the_field L G D g d).row
+worked_inside L G D g d s = struct_send (shape (WorkedInside.the_type L G D g d)) (search (sendable, crosses) depth 40, (s, (search (sendable, crosses) depth 40, (search (sendable, crosses) depth 40, (search (sendable, crosses) depth 40, tt)))))
 
-pub worked_send : (L G : RattleType) (g : link.Ghosts L.Denot) → IsSend G → IsSend (Worked.the_row L G g)
-worked_send L G g s =
-    let a = worked_inside L G g s in
+pub worked_send : (L G D : RattleType) (g : link.Ghosts L.Denot) (d : delivery.Ghosts D.Denot) → IsSend G → IsSend (Worked.the_row L G D g d)
+worked_send L G D g d s =
+    let a = worked_inside L G D g d s in
     search (sendable) depth 40 fits 20000

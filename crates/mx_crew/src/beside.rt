@@ -15,6 +15,7 @@ use crate::worked::Worked;
 use mx_gate::Gate;
 use mx_link::Link;
 use mx_run_io::Stop;
+use mx_sink::Delivery;
 use std::alloc::{AllocGlobal, Global};
 use std::random::RandomSource;
 use std::snapshot::Snapshot;
@@ -275,6 +276,7 @@ fn rooms<D: Drop, J: Job<D> + Drop>(
 pub fn run_beside<
     'm,
     L: Link + Send,
+    D: Delivery + Send,
     R: Threads + Wait + RandomSource + AllocGlobal + Sync,
     G: Gate<Link = L> + Send + Drop,
     T: Drop,
@@ -282,9 +284,9 @@ pub fn run_beside<
 >(
     rt: &'m R,
     crew: &'m Crew,
-    slots: Vec<WorkerSlot<'m, L, G>>,
+    slots: Vec<WorkerSlot<'m, L, G, D>>,
     application: F,
-) -> (T, Result<Vec<Worked<L, G>>, Stop>)
+) -> (T, Result<Vec<Worked<L, G, D>>, Stop>)
     requires { (stands : Result Unit WhyNone) → IfErr stands (λ e. is_crew_stop e ≡ true) → F.pre application stands }
     ensures told { MatchResult result.1 (λ worked. F.post application (Ok tt) result.0 × (vec_len worked ≡ vec_len slots.entry)) (λ e. F.post application (Err e) result.0) }
     ensures own { IfOk result.1 (λ worked. AllZip (λ slot done. IsOfSlot G.said slot.seat slot.gate done) slots.entry.items worked.items) }

@@ -4,24 +4,25 @@ ghost use Rattle.mx_multi.specs.Opening.{are_within};
 
 use mx_link::Link;
 use mx_multi::{Limits, Multi, OpenError, OwnedMulti, Seat, WorkerSeat};
+use mx_sink::{Delivery, Held};
 use mx_transfer::{Outcome, Queued};
 use mx_types::OutOfMemory;
 use std::alloc::AllocGlobal;
 use std::sync::Wait;
 
 /// A multi handle with one seat for an application, and the workers' seats.
-pub struct Opened<L: Link> {
-    pub multi: OwnedMulti<Queued<L>, Outcome>,
-    pub seat: Seat<Queued<L>, Outcome>,
-    pub workers: Vec<WorkerSeat<Queued<L>, Outcome>>,
+pub struct Opened<L: Link, D: Delivery = Held> {
+    pub multi: OwnedMulti<Queued<L, D>, Outcome<D>>,
+    pub seat: Seat<Queued<L, D>, Outcome<D>>,
+    pub workers: Vec<WorkerSeat<Queued<L, D>, Outcome<D>>>,
 }
 
 /// Opens a multi handle with these limits, which have one seat for an application, and are within theirs: so `OutOfMemory` is the only
 /// refusal.
-pub fn open_one<L: Link, R: Wait + AllocGlobal>(
+pub fn open_one<L: Link, D: Delivery, R: Wait + AllocGlobal>(
     rt: &R,
     limits: Limits,
-) -> Result<Opened<L>, OutOfMemory>
+) -> Result<Opened<L, D>, OutOfMemory>
     requires within { are_within limits ≡ true }
     requires one { limits.seats ≡ 1 }
     ensures seat { IfOk result (λ o. o.seat.of ≡ o.multi) }

@@ -10,6 +10,7 @@ use crate::worked::{Counts, SeatThen, Worked};
 use mx_gate::{Gate, Turn};
 use mx_link::Link;
 use mx_multi::{AtWork, Multi, Seated, WorkerSeat};
+use mx_sink::{Delivery, Held};
 use mx_transfer::{Outcome, Queued};
 use mx_worker::{WorkerEnd, run_worker};
 use std::alloc::{AllocGlobal, Global};
@@ -23,26 +24,26 @@ const START_AGAIN: u32 = 20;
 
 /// A worker's seat and its gate.
 #[derive(Drop)]
-pub struct WorkerSlot<'m, L: Link, G> {
-    pub seat: Seated<'m, AtWork, Queued<L>, Outcome>,
+pub struct WorkerSlot<'m, L: Link, G, D: Delivery = Held> {
+    pub seat: Seated<'m, AtWork, Queued<L, D>, Outcome<D>>,
     pub gate: G,
 }
 
 /// Memory for slots was refused: seats and gates come back.
 #[derive(Drop)]
-pub struct NoWorkerSlots<L: Link, G> {
-    pub seats: Vec<WorkerSeat<Queued<L>, Outcome>>,
+pub struct NoWorkerSlots<L: Link, G, D: Delivery = Held> {
+    pub seats: Vec<WorkerSeat<Queued<L, D>, Outcome<D>>>,
     pub gates: Vec<G>,
 }
 
 /// A slot for each seat, as far as there are gates. Seats or gates left over are dropped. Where memory is refused, seats and gates are
 /// handed back.
-pub fn worker_slots<'m, L: Link, G: Gate<Link = L> + Drop>(
+pub fn worker_slots<'m, L: Link, D: Delivery, G: Gate<Link = L> + Drop>(
     alloc: Global,
-    multi: &'m Multi<Queued<L>, Outcome>,
-    seats: Vec<WorkerSeat<Queued<L>, Outcome>>,
+    multi: &'m Multi<Queued<L, D>, Outcome<D>>,
+    seats: Vec<WorkerSeat<Queued<L, D>, Outcome<D>>>,
     gates: Vec<G>,
-) -> Result<Vec<WorkerSlot<'m, L, G>>, NoWorkerSlots<L, G>>
+) -> Result<Vec<WorkerSlot<'m, L, G, D>>, NoWorkerSlots<L, G, D>>
     requires { All (λ s. s.of ≡ multi.now) seats.items }
     ensures count { IfOk result (λ slots. vec_len slots ≡ min (vec_len seats) (vec_len gates)) }
     ensures back { IfErr result (λ e. (e.seats ≡ seats) × (e.gates ≡ gates)) }
@@ -58,11 +59,11 @@ pub fn worker_slots<'m, L: Link, G: Gate<Link = L> + Drop>(
 }
 
 // Makes a slot of each gate, as far as there are seats: there is room for them. It owns none of these, so its exits drop none but a gate.
-fn fill<'m, L: Link, G: Gate<Link = L> + Drop>(
-    multi: &'m Multi<Queued<L>, Outcome>,
-    seats: &mut Vec<WorkerSeat<Queued<L>, Outcome>>,
+fn fill<'m, L: Link, D: Delivery, G: Gate<Link = L> + Drop>(
+    multi: &'m Multi<Queued<L, D>, Outcome<D>>,
+    seats: &mut Vec<WorkerSeat<Queued<L, D>, Outcome<D>>>,
     gates: &mut Vec<G>,
-    slots: &mut Vec<WorkerSlot<'m, L, G>>,
+    slots: &mut Vec<WorkerSlot<'m, L, G, D>>,
 )
     requires own { All (λ s. s.of ≡ multi.now) seats.old.items }
     requires none { vec_len slots.old ≡ 0 }
@@ -83,13 +84,13 @@ fn fill<'m, L: Link, G: Gate<Link = L> + Drop>(
 
 // What a worker counted, and its seat then.
 #[derive(Drop)]
-struct Done<L: Link> {
+struct Done<L: Link, D: Delivery> {
     counts: Counts,
-    last: SeatThen<L>,
+    last: SeatThen<L, D>,
 }
 
 // What a worker did. Its seat is dropped.
-fn done_of<L: Link>(end: WorkerEnd<'_, L>) -> Done<L>
+fn done_of<L: Link, D: Delivery>(end: WorkerEnd<'_, L, D>) -> Done<L, D>
     ensures seat { result.last.value ≡ end.entry.seat }
     ensures counts { result.counts ≡ record { recorded = end.entry.recorded; stale = end.entry.stale; given_back = end.entry.given_back } }
 {
@@ -116,11 +117,11 @@ fn done_of<L: Link>(end: WorkerEnd<'_, L>) -> Done<L>
 // Works until the gate stops it, and says what it did. The seat comes back as it was where memory for the start was refused, and the gate
 // doesn't stop it.
 #[tactic(auto, using(crate::proofs::Workers::try_ran, crate::proofs::Workers::try_refused))]
-fn work_once<'m, L: Link, R: Wait + RandomSource + AllocGlobal, G: Gate<Link = L>>(
+fn work_once<'m, L: Link, D: Delivery, R: Wait + RandomSource + AllocGlobal, G: Gate<Link = L>>(
     rt: &R,
-    seat: Seated<'m, AtWork, Queued<L>, Outcome>,
+    seat: Seated<'m, AtWork, Queued<L, D>, Outcome<D>>,
     gate: &mut G,
-) -> Result<Done<L>, Seated<'m, AtWork, Queued<L>, Outcome>>
+) -> Result<Done<L, D>, Seated<'m, AtWork, Queued<L, D>, Outcome<D>>>
     ensures ends { IfOk result (λ done. EndsTry L.history L.token_of seat.entry done.last.value (G.said gate.old) (G.said gate.new) done.counts) }
     ensures again { IfErr result (λ again. (again ≡ seat.entry) × (G.said gate.new ≡ G.said gate.old ++ waited again_ms false ∷ [])) }
 {
@@ -133,11 +134,11 @@ fn work_once<'m, L: Link, R: Wait + RandomSource + AllocGlobal, G: Gate<Link = L
 
 // Works until the gate stops it, and says what it did. Where memory for its start is refused, it tries again after a while.
 #[tactic(auto, using(crate::proofs::Workers::refused_again, crate::proofs::Workers::has_worked))]
-fn work_on<'m, L: Link, R: Wait + RandomSource + AllocGlobal, G: Gate<Link = L>>(
+fn work_on<'m, L: Link, D: Delivery, R: Wait + RandomSource + AllocGlobal, G: Gate<Link = L>>(
     rt: &R,
-    seat: Seated<'m, AtWork, Queued<L>, Outcome>,
+    seat: Seated<'m, AtWork, Queued<L, D>, Outcome<D>>,
     gate: &mut G,
-) -> Done<L>
+) -> Done<L, D>
     requires { G.said gate.old ≡ [] }
     ensures { HasWorked L.history L.token_of seat.entry result.last.value (G.said gate.new) result.counts }
 {
@@ -152,9 +153,9 @@ fn work_on<'m, L: Link, R: Wait + RandomSource + AllocGlobal, G: Gate<Link = L>>
 }
 
 // The seat as it is, and a copy of it for contracts.
-fn shown<'m, L: Link>(
-    seat: Seated<'m, AtWork, Queued<L>, Outcome>,
-) -> (Seated<'m, AtWork, Queued<L>, Outcome>, SeatThen<L>)
+fn shown<'m, L: Link, D: Delivery>(
+    seat: Seated<'m, AtWork, Queued<L, D>, Outcome<D>>,
+) -> (Seated<'m, AtWork, Queued<L, D>, Outcome<D>>, SeatThen<L, D>)
     ensures same { result.0 ≡ seat.entry }
     ensures then { result.1.value ≡ seat.entry }
 {
@@ -165,12 +166,19 @@ fn shown<'m, L: Link>(
 }
 
 // Works as `Job::work` says. What the gate had said is picked by who calls it.
-fn work_at<'m, L: Link, R: Wait + RandomSource + AllocGlobal, G: Gate<Link = L>, B: Before>(
+fn work_at<
+    'm,
+    L: Link,
+    D: Delivery,
+    R: Wait + RandomSource + AllocGlobal,
+    G: Gate<Link = L>,
+    B: Before,
+>(
     rt: &R,
     common: &Common,
-    seat: Seated<'m, AtWork, Queued<L>, Outcome>,
+    seat: Seated<'m, AtWork, Queued<L, D>, Outcome<D>>,
     gate: G,
-) -> Worked<L, G>
+) -> Worked<L, G, D>
     requires { B.said ≡ G.said gate }
     ensures seat { result.start ≡ seat.entry }
     ensures gate { OpensWithin G.said B.said result.gate result.said }
@@ -182,13 +190,18 @@ fn work_at<'m, L: Link, R: Wait + RandomSource + AllocGlobal, G: Gate<Link = L>,
     Worked::new(done.counts, gate, start, done.last, said)
 }
 
-impl<'m, L: Link, G: Gate<Link = L> + Drop> Job<Worked<L, G>> for WorkerSlot<'m, L, G> {
+impl<'m, L: Link, G: Gate<Link = L> + Drop, D: Delivery> Job<Worked<L, G, D>>
+    for WorkerSlot<'m, L, G, D> {
     ghost gives = { λ slot worked. IsOfSlot G.said slot.seat slot.gate worked };
 
     // Works until the gate stops it, and says what it did: the gate comes back. Where memory for its start is refused, it tries again after a
     // while, and the gate tells so. Tests show that it ends only where its gate stops it.
-    fn work<R: Wait + RandomSource + AllocGlobal>(self, rt: &R, common: &Common) -> Worked<L, G> {
+    fn work<R: Wait + RandomSource + AllocGlobal>(
+        self,
+        rt: &R,
+        common: &Common,
+    ) -> Worked<L, G, D> {
         let WorkerSlot { seat, gate } = self;
-        work_at::<L, R, G, Brand>(rt, common, seat, gate)
+        work_at::<L, D, R, G, Brand>(rt, common, seat, gate)
     }
 }

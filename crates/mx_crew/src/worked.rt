@@ -5,6 +5,7 @@ ghost use Rattle.mx_crew.specs.Worked.{HasWorked};
 use mx_gate::Said;
 use mx_link::Link;
 use mx_multi::WorkerSeat;
+use mx_sink::{Delivery, Held};
 use mx_transfer::{Outcome, Queued};
 use mx_types::History;
 use std::marker::Model;
@@ -19,20 +20,20 @@ pub struct Counts {
 }
 
 /// A worker's seat at one moment, for contracts alone.
-pub(crate) type SeatThen<L> = Snapshot<WorkerSeat<Queued<L>, Outcome>>;
+pub(crate) type SeatThen<L, D> = Snapshot<WorkerSeat<Queued<L, D>, Outcome<D>>>;
 
 /// What a worker of a run did, and its gate, which is free again. Contracts see, too, its seat as the run began and as it ended, and all that
 /// it was told in the run, by the run or by its gate. What it counted is what it did with that seat.
-pub struct Worked<L: Link, G> {
+pub struct Worked<L: Link, G, D: Delivery = Held> {
     counts: Counts,
     gate: G,
-    start: SeatThen<L>,
-    last: SeatThen<L>,
+    start: SeatThen<L, D>,
+    last: SeatThen<L, D>,
     said: History<Said>,
 }
 
 // Written out, and not derived: a crate that drops one cites its proof.
-impl<L: Link, G: Drop> Drop for Worked<L, G> {
+impl<L: Link, G: Drop, D: Delivery> Drop for Worked<L, G, D> {
     fn drop(self) {
         let Worked {
             counts: _,
@@ -48,7 +49,7 @@ impl<L: Link, G: Drop> Drop for Worked<L, G> {
     }
 }
 
-impl<L: Link, G> Model for Worked<L, G> {
+impl<L: Link, G, D: Delivery> Model for Worked<L, G, D> {
     ghost use Rattle.mx_crew.specs.Worked.{HasWorked, WorkedState};
 
     ghost Value = { WorkedState L G };
@@ -58,15 +59,15 @@ impl<L: Link, G> Model for Worked<L, G> {
     ghost invariant = { λ w. HasWorked L.history L.token_of w.start.value w.last.value w.said w.counts };
 }
 
-impl<L: Link, G> Worked<L, G> {
+impl<L: Link, G, D: Delivery> Worked<L, G, D> {
     // What a worker did with its seat, from the start of the run to its last moment.
     pub(crate) fn new(
         counts: Counts,
         gate: G,
-        start: SeatThen<L>,
-        last: SeatThen<L>,
+        start: SeatThen<L, D>,
+        last: SeatThen<L, D>,
         said: History<Said>,
-    ) -> Worked<L, G>
+    ) -> Worked<L, G, D>
         requires { HasWorked L.history L.token_of start.value last.value said counts }
         ensures { result ≡ record { counts = counts; gate = gate; start = start.value; last = last.value; said = said } }
     {

@@ -11,7 +11,7 @@ use Rattle.mx_types.specs.declared.reply.Reply.{Reply}
 use Rattle.mx_types.specs.declared.reply.Reply.TheVariants as reply
 use Rattle.mx_types.specs.declared.reply.Look.{Look}
 use Rattle.mx_request.specs.Request.{request_origin}
-use Rattle.mx_chain.specs.Outcomes.{OutcomeValue}
+use Rattle.mx_chain.specs.Outcomes.{OutcomeValue, size_of}
 use Rattle.logbook.specs.Pages.{Book}
 use Rattle.mx_journal.specs.declared.replies.FinishReply.{FinishReply}
 use Rattle.mx_journal.specs.declared.replies.FinishReply.TheVariants as finish
@@ -31,7 +31,7 @@ use Rattle.mx_turn.proofs.Accounts.{accounted}
 use Rattle.mx_worker_turns.specs.WorkerSteps.{EndView, HandsIn, HasRun, HeldView}
 use Rattle.mx_lock.specs.Ties.{TiedClaimed}
 use Rattle.mx_turn.specs.Laws.{claimed_by, recorded_by, stale_by, given_back_by, unseated_by}
-use Rattle.mx_worker.specs.Work.{AreCounted, AreHeld, FoundOther, IsDone, IsUncounted, WasQueued, WorkerRan, answered_by, claimed_whole, code_of, end_of, finish_call, finish_of, handed_back, held_count, noted_by_deed, return_of, size_of}
+use Rattle.mx_worker.specs.Work.{AreCounted, AreHeld, FoundOther, IsDone, IsUncounted, WasQueued, WorkerRan, answered_by, claimed_whole, code_of, end_of, finish_call, finish_of, handed_back, held_count, noted_by_deed, return_of}
 
 -- what a deed more adds to a list that is picked out of the deeds
 picks_more : {D X : Type 0} (by : D → Option X) (ds : List D) (d : D) (old is start : List X) → old ≡ start ++ filter_map by ds → is ≡ old ++ filter_map by (d ∷ []) → is ≡ start ++ filter_map by (ds ++ d ∷ [])

@@ -7,9 +7,8 @@ use Rattle.mx_types.specs.declared.call.Call.TheVariants as call
 use Rattle.mx_types.specs.declared.call.Receipt.{Receipt}
 use Rattle.mx_types.specs.declared.reply.Reply.{Reply}
 use Rattle.mx_types.specs.declared.reply.Reply.TheVariants as reply
-use Rattle.mx_body.specs.Parts.{joined}
 use Rattle.mx_link.specs.declared.answers.Answer.{Answer}
-use Rattle.mx_chain.specs.Outcomes.{OutcomeValue}
+use Rattle.mx_chain.specs.Outcomes.{OutcomeValue, size_of}
 use Rattle.mx_journal.specs.declared.replies.FinishReply.{FinishReply}
 use Rattle.mx_journal.specs.declared.replies.FinishReply.TheVariants as finish
 use Rattle.mx_journal.specs.declared.replies.GiveBackReply.{GiveBackReply}
@@ -26,12 +25,9 @@ use Rattle.mx_turn.specs.Turn.{Runs}
 use Rattle.mx_worker_turns.specs.WorkerSteps.{EndView, HeldView}
 use Rattle.mx_turn.specs.Laws.{claimed_by, recorded_by, stale_by, given_back_by, unseated_by, AreAccounted}
 
--- the code of an outcome, and how many bytes its body has, as in its message
+-- the code of an outcome, as in its message
 abbrev pub code_of : OutcomeValue → Code
 code_of o = o.code
-
-abbrev pub size_of : OutcomeValue → ℕ
-size_of o = length (joined o.wire o.parts)
 
 -- the call that hands in the end of a ticket
 abbrev pub finish_call : Ticket → OutcomeValue → Call

@@ -3,6 +3,7 @@ ghost use Rattle.std.specs.Prelude.{◌≡◌};
 
 use mx_link::Link;
 use mx_lock::TiedClaim;
+use mx_sink::Delivery;
 use mx_transfer::Queued;
 use mx_types::Ticket;
 use mx_worker_turns::{Right, Tied};
@@ -10,11 +11,11 @@ use std::marker::Model;
 
 /// A claim of queued work. Contracts see it as the claim.
 #[derive(Drop)]
-pub(crate) struct WorkerClaim<L: Link> {
-    claim: TiedClaim<Queued<L>>,
+pub(crate) struct WorkerClaim<L: Link, D: Delivery> {
+    claim: TiedClaim<Queued<L, D>>,
 }
 
-impl<L: Link> Model for WorkerClaim<L> {
+impl<L: Link, D: Delivery> Model for WorkerClaim<L, D> {
     ghost use Rattle.mx_lock.specs.Ties.{TiedClaimed};
 
     ghost Value = { TiedClaimed };
@@ -22,11 +23,11 @@ impl<L: Link> Model for WorkerClaim<L> {
     ghost view = { λ c. c.claim };
 }
 
-impl<L: Link> Tied for WorkerClaim<L> {
+impl<L: Link, D: Delivery> Tied for WorkerClaim<L, D> {
     ghost of = { λ c. c.of };
 }
 
-impl<L: Link> Right for WorkerClaim<L> {
+impl<L: Link, D: Delivery> Right for WorkerClaim<L, D> {
     ghost ticket_of = { λ c. c.ticket };
 
     ghost slot_of = { λ c. c.slot };
@@ -40,20 +41,20 @@ impl<L: Link> Right for WorkerClaim<L> {
     }
 }
 
-impl<L: Link> WorkerClaim<L> {
-    pub fn new(claim: TiedClaim<Queued<L>>) -> WorkerClaim<L>
+impl<L: Link, D: Delivery> WorkerClaim<L, D> {
+    pub fn new(claim: TiedClaim<Queued<L, D>>) -> WorkerClaim<L, D>
         ensures { result ≡ claim }
     {
         WorkerClaim { claim }
     }
 
-    pub fn claim(&self) -> &TiedClaim<Queued<L>>
+    pub fn claim(&self) -> &TiedClaim<Queued<L, D>>
         ensures { result.now ≡ self.now }
     {
         &self.claim
     }
 
-    pub fn into_claim(self) -> TiedClaim<Queued<L>>
+    pub fn into_claim(self) -> TiedClaim<Queued<L, D>>
         ensures { result ≡ self }
     {
         self.claim

@@ -6,21 +6,22 @@ ghost use Rattle.mx_worker.specs.Work.{AreCounted, IsUncounted, finish_of, hande
 use crate::claims::WorkerClaim;
 use mx_journal::{FinishReply, GiveBackReply};
 use mx_link::Link;
+use mx_sink::Delivery;
 use mx_types::History;
-use mx_worker_turns::{Done, Finished, Held};
+use mx_worker_turns::{Claimed, Done, Finished};
 use std::marker::Model;
 use std::snapshot::Snapshot;
 
 /// What a worker did, and how many ends were recorded, how many were stale, and how many transfers went back to the queue.
 #[derive(Drop)]
-pub(crate) struct Log<L: Link> {
-    did: History<Done<L, WorkerClaim<L>>>,
+pub(crate) struct Log<L: Link, D: Delivery> {
+    did: History<Done<L, WorkerClaim<L, D>, D>>,
     recorded: u32,
     stale: u32,
     given_back: u32,
 }
 
-impl<L: Link> Model for Log<L> {
+impl<L: Link, D: Delivery> Model for Log<L, D> {
     ghost use Rattle.mx_worker.specs.Work.{AreCounted, LogView};
 
     ghost Value = { LogView L };
@@ -30,8 +31,8 @@ impl<L: Link> Model for Log<L> {
     ghost invariant = { λ l. AreCounted l.did l.recorded l.stale l.given_back };
 }
 
-impl<L: Link> Log<L> {
-    pub fn new() -> Log<L>
+impl<L: Link, D: Delivery> Log<L, D> {
+    pub fn new() -> Log<L, D>
         ensures { result ≡ record { did = []; recorded_count = 0; stale_count = 0; given_back_count = 0 } }
     {
         Log {
@@ -51,7 +52,7 @@ impl<L: Link> Log<L> {
     }
 
     /// Notes what isn't counted.
-    pub fn note(&mut self, done: Done<L, WorkerClaim<L>>)
+    pub fn note(&mut self, done: Done<L, WorkerClaim<L, D>, D>)
         requires { IsUncounted done }
         ensures { self.new.did ≡ self.old.did ++ done ∷ [] }
     {
@@ -64,7 +65,7 @@ impl<L: Link> Log<L> {
     pub fn note_end<C: Drop, O: Drop, W: Drop>(
         &mut self,
         answer: Result<FinishReply<C, O>, W>,
-        end: Snapshot<Finished<WorkerClaim<L>>>,
+        end: Snapshot<Finished<WorkerClaim<L, D>, D>>,
     ) -> Option<(C, O)>
         ensures did { self.new.did ≡ self.old.did ++ finishes end.value.end.ticket end.value.end.outcome (finish_of answer) ∷ [] }
         ensures back { result ≡ handed_back answer }
@@ -97,7 +98,7 @@ impl<L: Link> Log<L> {
     pub fn note_return<Q: Drop, W: Drop>(
         &mut self,
         answer: Result<GiveBackReply<Q>, W>,
-        given: Snapshot<Held<L, WorkerClaim<L>>>,
+        given: Snapshot<Claimed<L, WorkerClaim<L, D>, D>>,
     )
         ensures { self.new.did ≡ self.old.did ++ gives_back given.value.held (return_of answer) ∷ [] }
     {

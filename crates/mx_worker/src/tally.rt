@@ -11,22 +11,23 @@ use crate::worker::WorkerEnd;
 use mx_link::Link;
 use mx_lock::TiedClaim;
 use mx_multi::{AtWork, Seated};
+use mx_sink::Delivery;
 use mx_transfer::{Outcome, Queued};
 use mx_types::{Look, Ticket};
-use mx_worker_turns::{Done, Engine, Finished, Held, Tied};
+use mx_worker_turns::{Claimed, Done, Engine, Finished, Tied};
 use std::marker::Model;
 use std::mem;
 use std::snapshot::Snapshot;
 use std::sync::Wait;
 
 /// The seat of a running worker, beside the seat as the worker began, and what was done with it since. Only the calls here touch it.
-pub(crate) struct Tally<'m, L: Link> {
-    start: Snapshot<Seated<'m, AtWork, Queued<L>, Outcome>>,
-    seat: Seated<'m, AtWork, Queued<L>, Outcome>,
-    log: Log<L>,
+pub(crate) struct Tally<'m, L: Link, D: Delivery> {
+    start: Snapshot<Seated<'m, AtWork, Queued<L, D>, Outcome<D>>>,
+    seat: Seated<'m, AtWork, Queued<L, D>, Outcome<D>>,
+    log: Log<L, D>,
 }
 
-impl<'m, L: Link> Drop for Tally<'m, L> {
+impl<'m, L: Link, D: Delivery> Drop for Tally<'m, L, D> {
     fn drop(self) {
         let Tally { start, seat, log } = self;
         drop(start);
@@ -35,7 +36,7 @@ impl<'m, L: Link> Drop for Tally<'m, L> {
     }
 }
 
-impl<'m, L: Link> Model for Tally<'m, L> {
+impl<'m, L: Link, D: Delivery> Model for Tally<'m, L, D> {
     ghost use Rattle.mx_transfer.specs.Transfers.{TransferState};
     ghost use Rattle.mx_worker.specs.Work.{IsDone, TallyView};
 
@@ -46,27 +47,30 @@ impl<'m, L: Link> Model for Tally<'m, L> {
     ghost invariant = { λ t. IsDone t.start.value t.seat t.log.did };
 }
 
-impl<'m, L: Link> Tied for Tally<'m, L> {
+impl<'m, L: Link, D: Delivery> Tied for Tally<'m, L, D> {
     ghost of = { λ t. t.start.of.engine.ties };
 }
 
 // A claim and its transfer, as a worker holds them.
-fn held_of<L: Link>(
-    claimed: Option<(TiedClaim<Queued<L>>, Queued<L>)>,
-) -> Option<Held<L, WorkerClaim<L>>>
+fn held_of<L: Link, D: Delivery>(
+    claimed: Option<(TiedClaim<Queued<L, D>>, Queued<L, D>)>,
+) -> Option<Claimed<L, WorkerClaim<L, D>, D>>
     requires { IfSome claimed (λ r. r.0.origin ≡ request_origin r.1.chain.request) }
     ensures { AreHeld claimed result }
 {
     match claimed {
-        Some((claim, queued)) => Some(Held::new(WorkerClaim::new(claim), queued.into_transfer())),
+        Some((claim, queued)) => Some(Claimed::new(
+            WorkerClaim::new(claim),
+            queued.into_transfer(),
+        )),
         None => None,
     }
 }
 
 // An end that came back.
-fn finished_of<L: Link>(
-    back: Option<(TiedClaim<Queued<L>>, Outcome)>,
-) -> Option<Finished<WorkerClaim<L>>>
+fn finished_of<L: Link, D: Delivery>(
+    back: Option<(TiedClaim<Queued<L, D>>, Outcome<D>)>,
+) -> Option<Finished<WorkerClaim<L, D>, D>>
     requires { IfSome back (λ r. request_origin r.1.request ≡ r.0.origin) }
     ensures { result ≡ option_map end_of back }
 {
@@ -76,8 +80,8 @@ fn finished_of<L: Link>(
     }
 }
 
-impl<'m, L: Link> Tally<'m, L> {
-    pub fn new(seat: Seated<'m, AtWork, Queued<L>, Outcome>) -> Tally<'m, L>
+impl<'m, L: Link, D: Delivery> Tally<'m, L, D> {
+    pub fn new(seat: Seated<'m, AtWork, Queued<L, D>, Outcome<D>>) -> Tally<'m, L, D>
         ensures { result ≡ record { start = seat.entry; seat = seat.entry; did = [] } }
     {
         Tally {
@@ -89,7 +93,7 @@ impl<'m, L: Link> Tally<'m, L> {
 
     // rule worker-seat
     /// The end of a run that memory for its start was refused, or wasn't.
-    pub fn end(self, refused: bool) -> WorkerEnd<'m, L>
+    pub fn end(self, refused: bool) -> WorkerEnd<'m, L, D>
         ensures seat { result.seat ≡ self.entry.seat }
         ensures done { IsDone self.entry.start result.seat self.entry.did }
         ensures counted { AreCounted self.entry.did result.recorded result.stale result.given_back }
@@ -112,8 +116,8 @@ impl<'m, L: Link> Tally<'m, L> {
     fn hand_in<R: Wait>(
         &mut self,
         rt: &R,
-        finished: Finished<WorkerClaim<L>>,
-    ) -> Option<Finished<WorkerClaim<L>>>
+        finished: Finished<WorkerClaim<L, D>, D>,
+    ) -> Option<Finished<WorkerClaim<L, D>, D>>
         requires own { finished.of ≡ self.old.start.of.engine.ties }
         ensures did { HandsIn self.old.did self.new.did finished result }
         ensures same { self.new.start ≡ self.old.start }
@@ -125,7 +129,7 @@ impl<'m, L: Link> Tally<'m, L> {
     }
 
     // Gives a transfer back. One that doesn't go back to the queue is dropped.
-    fn hand_back<R: Wait>(&mut self, rt: &R, held: Held<L, WorkerClaim<L>>)
+    fn hand_back<R: Wait>(&mut self, rt: &R, held: Claimed<L, WorkerClaim<L, D>, D>)
         requires own { held.of ≡ self.old.start.of.engine.ties }
         ensures did { (r : Return) × (self.new.did ≡ self.old.did ++ gives_back held.held r ∷ []) }
         ensures same { self.new.start ≡ self.old.start }
@@ -139,14 +143,14 @@ impl<'m, L: Link> Tally<'m, L> {
     }
 }
 
-impl<'m, L: Link> Engine<L, WorkerClaim<L>> for Tally<'m, L> {
-    type Start = Seated<'m, AtWork, Queued<L>, Outcome>;
+impl<'m, L: Link, D: Delivery> Engine<L, WorkerClaim<L, D>, D> for Tally<'m, L, D> {
+    type Start = Seated<'m, AtWork, Queued<L, D>, Outcome<D>>;
 
     ghost did = { λ t. t.did };
 
     ghost start = { λ t. t.start };
 
-    fn claim<R: Wait>(&mut self, rt: &R) -> Option<Held<L, WorkerClaim<L>>>
+    fn claim<R: Wait>(&mut self, rt: &R) -> Option<Claimed<L, WorkerClaim<L, D>, D>>
         ensures did { self.new.did ≡ self.old.did ++ claims (option_map (λ h. h.held) result) ∷ [] }
         ensures own { IfSome result (λ h. h.of ≡ self.old.start.of.engine.ties) }
         ensures same { (self.new.start.of.engine.ties ≡ self.old.start.of.engine.ties) × (self.new.start ≡ self.old.start) }
@@ -165,7 +169,7 @@ impl<'m, L: Link> Engine<L, WorkerClaim<L>> for Tally<'m, L> {
         seen
     }
 
-    fn note(&mut self, right: &WorkerClaim<L>, count: u32)
+    fn note(&mut self, right: &WorkerClaim<L, D>, count: u32)
         ensures did { self.new.did ≡ self.old.did ++ notes right.now.ticket right.now.slot count ∷ [] }
         ensures same { (self.new.start.of.engine.ties ≡ self.old.start.of.engine.ties) × (self.new.start ≡ self.old.start) }
     {
@@ -173,7 +177,7 @@ impl<'m, L: Link> Engine<L, WorkerClaim<L>> for Tally<'m, L> {
         self.log.note(Done::notes(right, count));
     }
 
-    fn finish<R: Wait>(&mut self, rt: &R, finished: &mut Option<Finished<WorkerClaim<L>>>)
+    fn finish<R: Wait>(&mut self, rt: &R, finished: &mut Option<Finished<WorkerClaim<L, D>, D>>)
         requires own { IfSome finished.old (λ f. f.of ≡ self.old.start.of.engine.ties) }
         ensures did { IfSome finished.old (λ f. HandsIn self.old.did self.new.did f finished.new) }
         ensures same { (self.new.start.of.engine.ties ≡ self.old.start.of.engine.ties) × (self.new.start ≡ self.old.start) }
@@ -186,7 +190,7 @@ impl<'m, L: Link> Engine<L, WorkerClaim<L>> for Tally<'m, L> {
         drop(mem::replace(finished, handed));
     }
 
-    fn give_back<R: Wait>(&mut self, rt: &R, held: &mut Option<Held<L, WorkerClaim<L>>>)
+    fn give_back<R: Wait>(&mut self, rt: &R, held: &mut Option<Claimed<L, WorkerClaim<L, D>, D>>)
         requires own { IfSome held.old (λ h. h.of ≡ self.old.start.of.engine.ties) }
         ensures did { IfSome held.old (λ h. (r : Return) × (self.new.did ≡ self.old.did ++ gives_back h.held r ∷ [])) }
         ensures same { (self.new.start.of.engine.ties ≡ self.old.start.of.engine.ties) × (self.new.start ≡ self.old.start) }

@@ -11,9 +11,10 @@ use Rattle.mx_chain.specs.Chains.{ChainState, received_of}
 use Rattle.mx_chain.specs.Outcomes.{OutcomeValue}
 use Rattle.mx_chain.specs.Steps.{How, waits}
 use Rattle.mx_gate.specs.Said.{Said}
+use Rattle.mx_transfer.specs.Deliveries.{MakesRoom}
 use Rattle.mx_turn.specs.Supplies.{Supplies}
 use Rattle.mx_turn.specs.Workers.{Held, Worker, does, holds, Finish, recorded, stale, lacking, unseated, Return, Deed, looks, notes, gives_back}
-use Rattle.mx_turn.specs.Turn.{handed_in, is_delayed, prepared, unlinked, Keeps, Settles, Supplied, LooksAt, lets_go, serves, is_go}
+use Rattle.mx_turn.specs.Turn.{handed_in, is_delayed, prepared, unlinked, Keeps, Readies, Settles, Supplied, LooksAt, lets_go, serves, is_go}
 use Rattle.mx_worker_turns.specs.WorkerSteps.{beside, IsReadied, Polls, Advances}
 
 -- the same in each part
@@ -48,23 +49,28 @@ module _ {L : Type 0} (history : L → List Answer) (token_of : L → ℕ) where
       subst (λ (b : Bool). (Supplied history token_of (prepared now b t) ready w.idle left s.said → IsReadied history token_of (prepared now b t) ready b delayed w (record w { idle = left; said = is }))) (sym e)
       (λ given. record { idle = left; said = s.said; readies = given; delays = s.delays; after = ap (λ (x : List Said). record w { idle = left; said = x }) s.meanwhile }) at
 
-  -- one that was made ready, polled, and settled
-  pub advanced : (now : ℕ) (h : Held L) (goes delayed : Bool) (w mid polled v : Worker L) (ready left : ChainState L) (how : How) (said : List Said) → IsReadied history token_of (prepared now goes h.transfer) ready goes delayed w (beside mid said)
-      → Polls history (record h { transfer = ready }) left mid polled how → Settles (record h { transfer = left }) goes delayed (beside polled said) (beside v said) how → Advances history token_of now h goes w (beside v said)
-  advanced now h goes delayed w mid polled v ready left how said r p s = record {
+  -- one whose delivery made room, and that was made ready, polled, and settled
+  pub advanced : (now : ℕ) (h : Held L) (may room goes delayed : Bool) (w mid polled v : Worker L) (offered ready left : ChainState L) (how : How) (said : List Said) → MakesRoom h.transfer offered room → goes ≡ (may && room)
+      → IsReadied history token_of (prepared now goes offered) ready goes delayed w (beside mid said)
+      → Polls history (record h { transfer = ready }) left mid polled how → Settles (record h { transfer = left }) goes delayed (beside polled said) (beside v said) how → Advances history token_of now h may w (beside v said)
+  advanced now h may room goes delayed w mid polled v offered ready left how said m e r p s = record {
+    room = room;
+    offered = offered;
     ready = ready;
     new = p.new;
     idle = r.idle;
     left = p.idle;
     said = r.said;
     how = how;
-    readies = r.readies;
-    steps = p.steps;
+    makes = m;
+    readies = subst (λ (b : Bool). Readies history token_of b (prepared now b offered) ready w.idle r.idle r.said) e r.readies;
+    polled = p.polled;
     keeps = subst (λ (x : Worker L). Keeps p.new x.idle p.idle) r.after p.keeps;
-    settles = subst (λ (x : Worker L). Settles (record h { transfer = unlinked p.new }) goes (is_delayed r.said) (record x { idle = p.idle; did = x.did ++ notes h.ticket h.slot (received_of p.new) ∷ [] }) (beside v said) how) r.after
-        (subst (λ (x : Worker L). Settles (record h { transfer = unlinked p.new }) goes (is_delayed r.said) (beside x said) (beside v said) how) p.after
-        (subst (λ (t : ChainState L). Settles (record h { transfer = t }) goes (is_delayed r.said) (beside polled said) (beside v said) how) p.unlinks
-        (subst (λ (b : Bool). Settles (record h { transfer = left }) goes b (beside polled said) (beside v said) how) r.delays s)));
+    settles = subst (λ (x : Worker L). Settles (record h { transfer = unlinked p.new }) (may && room) (is_delayed r.said) (record x { idle = p.idle; did = x.did ++ notes h.ticket h.slot (received_of p.new) ∷ [] }) (beside v said) how) r.after
+        (subst (λ (x : Worker L). Settles (record h { transfer = unlinked p.new }) (may && room) (is_delayed r.said) (beside x said) (beside v said) how) p.after
+        (subst (λ (t : ChainState L). Settles (record h { transfer = t }) (may && room) (is_delayed r.said) (beside polled said) (beside v said) how) p.unlinks
+        (subst (λ (b : Bool). Settles (record h { transfer = left }) (may && room) b (beside polled said) (beside v said) how) r.delays
+        (subst (λ (b : Bool). Settles (record h { transfer = left }) b delayed (beside polled said) (beside v said) how) e s))));
   }
 
   -- what was looked at, and given back, as it was gone
@@ -79,5 +85,5 @@ module _ {L : Type 0} (history : L → List Answer) (token_of : L → ℕ) where
   looks_on now h seen w v d ne e a =
       let more : d ++ notes h.ticket h.slot (received_of a.new) ∷ [] ≡ w.did ++ looks h.ticket seen ∷ notes h.ticket h.slot (received_of a.new) ∷ [] =
       ap (λ (x : List (Deed L)). x ++ notes h.ticket h.slot (received_of a.new) ∷ []) e ∙ append_assoc w.did (looks h.ticket seen ∷ []) (notes h.ticket h.slot (received_of a.new) ∷ []) in
-      serves seen a.ready a.new a.idle a.left a.said a.how ne a.readies a.steps a.keeps
-      (subst (λ (x : List (Deed L)). Settles (record h { transfer = unlinked a.new }) (is_go seen) (is_delayed a.said) (record w { idle = a.left; did = x; said = w.said ++ a.said }) v a.how) more a.settles)
+      serves seen a.room a.offered a.ready a.new a.idle a.left a.said a.polled.went a.how ne a.makes a.readies a.polled.steps a.polled.delivers a.keeps
+      (subst (λ (x : List (Deed L)). Settles (record h { transfer = unlinked a.new }) (is_go seen && a.room) (is_delayed a.said) (record w { idle = a.left; did = x; said = w.said ++ a.said }) v a.how) more a.settles)

@@ -1,10 +1,12 @@
 -- What the functions of a worker promise one another.
-use Rattle.std.specs.Prelude.{◌≡◌, ◌⊎◌, ℕ, ◌+◌, Bool, List, ◌∷◌, ◌++◌, [], length, Option, Some, None}
+use Rattle.std.specs.Prelude.{◌≡◌, ◌⊎◌, ℕ, ◌+◌, ◌&&◌, Bool, List, ◌∷◌, ◌++◌, [], length, Option, Some, None}
 use Rattle.logbook.specs.Pages.{Book}
 use Rattle.mx_link.specs.declared.answers.Answer.{Answer}
 use Rattle.mx_turn.specs.Idle.{Idle}
 use Rattle.mx_chain.specs.Chains.{ChainState, received_of}
 use Rattle.mx_chain.specs.Steps.{How, Steps}
+use Rattle.mx_transfer.specs.Deliveries.{MakesRoom}
+use Rattle.mx_transfer.specs.Transfers.{Delivers}
 use Rattle.mx_gate.specs.Said.{Said, lacked}
 use Rattle.mx_turn.specs.Workers.{Held, SetAside, Finish, recorded, stale, lacking, unseated, Deed, notes, finishes, Worker, starts, IsOver}
 use Rattle.mx_turn.specs.Turn.{Keeps, Readies, Settles, Runs, is_delayed, prepared, relieved, unlinked}
@@ -65,27 +67,36 @@ pub record IsReadied {L : Type 0} (history : L → List Answer) (token_of : L �
   pub delays : delayed ≡ is_delayed said
   pub after : v ≡ record w { idle = idle; said = w.said ++ said }
 
+-- one poll of a transfer: the turn of its chain, and what its delivery makes of an end
+pub record IsPolled {L : Type 0} (history : L → List Answer) (t new : ChainState L) (how : How) : Type 0 where
+  pub went : How
+  pub steps : Steps history t new went
+  pub delivers : Delivers went how
+
 -- a transfer is polled once: the count of its bytes is noted, and the link that a hop left is kept
 pub record Polls {L : Type 0} (history : L → List Answer) (h : Held L) (left : ChainState L) (w v : Worker L) (how : How) : Type 0 where
   pub new : ChainState L
   pub idle : Idle L
-  pub steps : Steps history h.transfer new how
+  pub polled : IsPolled history h.transfer new how
   pub keeps : Keeps new w.idle idle
   pub unlinks : left ≡ unlinked new
   pub after : v ≡ record w { idle = idle; did = w.did ++ notes h.ticket h.slot (received_of new) ∷ [] }
 
--- a transfer that was looked at is polled
+-- a transfer that was looked at is polled, once its delivery has made room
 pub record Advances {L : Type 0} (history : L → List Answer) (token_of : L → ℕ) (now : ℕ) (h : Held L) (goes : Bool) (w v : Worker L) : Type 0 where
+  pub room : Bool
+  pub offered : ChainState L
   pub ready : ChainState L
   pub new : ChainState L
   pub idle : Idle L
   pub left : Idle L
   pub said : List Said
   pub how : How
-  pub readies : Readies history token_of goes (prepared now goes h.transfer) ready w.idle idle said
-  pub steps : Steps history ready new how
+  pub makes : MakesRoom h.transfer offered room
+  pub readies : Readies history token_of (goes && room) (prepared now (goes && room) offered) ready w.idle idle said
+  pub polled : IsPolled history ready new how
   pub keeps : Keeps new idle left
-  pub settles : Settles (record h { transfer = unlinked new }) goes (is_delayed said) (record w { idle = left; did = w.did ++ notes h.ticket h.slot (received_of new) ∷ []; said = w.said ++ said }) v how
+  pub settles : Settles (record h { transfer = unlinked new }) (goes && room) (is_delayed said) (record w { idle = left; did = w.did ++ notes h.ticket h.slot (received_of new) ∷ []; said = w.said ++ said }) v how
 
 -- A worker ran, from its start to its end: what was done at the engine, and what its gate said, before and after.
 pub record HasRun {L : Type 0} (history : L → List Answer) (token_of : L → ℕ) (limit : ℕ) (done did : List (Deed L)) (was is : List Said) : Type 0 where

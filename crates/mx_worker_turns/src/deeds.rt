@@ -2,8 +2,9 @@
 ghost use Rattle.std.specs.Prelude.{◌≡◌, option_map};
 ghost use Rattle.mx_turn.specs.Workers.{claims, looks, notes, finishes, gives_back, recorded, stale, lacking, unseated, returned, ended_before, unreturned};
 
-use crate::engine::{Finished, Held, Right};
+use crate::engine::{Claimed, Finished, Right};
 use mx_link::Link;
+use mx_sink::Delivery;
 use mx_types::{Look, Ticket};
 use std::marker::Model;
 use std::snapshot::Snapshot;
@@ -24,19 +25,19 @@ pub(crate) enum Note<H, F, C> {
 }
 
 /// One operation at an engine, with its result.
-pub struct Done<L: Link, C: Right> {
-    note: Note<Held<L, C>, Finished<C>, C>,
+pub struct Done<L: Link, C: Right, D: Delivery> {
+    note: Note<Claimed<L, C, D>, Finished<C, D>, C>,
 }
 
 // Written out, and not derived: a crate that drops one cites its proof.
-impl<L: Link, C: Right> Drop for Done<L, C> {
+impl<L: Link, C: Right, D: Delivery> Drop for Done<L, C, D> {
     fn drop(self) {
         let Done { note } = self;
         drop(note);
     }
 }
 
-impl<L: Link, C: Right> Model for Done<L, C> {
+impl<L: Link, C: Right, D: Delivery> Model for Done<L, C, D> {
     ghost use Rattle.mx_turn.specs.Workers.{Deed};
     ghost use Rattle.mx_worker_turns.specs.Deeds.{done_by};
 
@@ -45,9 +46,9 @@ impl<L: Link, C: Right> Model for Done<L, C> {
     ghost view = { λ d. done_by C.ticket_of C.slot_of d.note };
 }
 
-impl<L: Link, C: Right> Done<L, C> {
+impl<L: Link, C: Right, D: Delivery> Done<L, C, D> {
     /// It asked for a transfer.
-    pub fn claims(held: &Option<Held<L, C>>) -> Done<L, C>
+    pub fn claims(held: &Option<Claimed<L, C, D>>) -> Done<L, C, D>
         ensures { result ≡ claims (option_map (λ h. h.held) held.now) }
     {
         Done {
@@ -56,7 +57,7 @@ impl<L: Link, C: Right> Done<L, C> {
     }
 
     /// It looked at a ticket.
-    pub fn looks(ticket: Ticket, seen: Option<Look>) -> Done<L, C>
+    pub fn looks(ticket: Ticket, seen: Option<Look>) -> Done<L, C, D>
         ensures { result ≡ looks ticket seen }
     {
         Done {
@@ -65,7 +66,7 @@ impl<L: Link, C: Right> Done<L, C> {
     }
 
     /// It noted a count of bytes.
-    pub fn notes(right: &C, count: u32) -> Done<L, C>
+    pub fn notes(right: &C, count: u32) -> Done<L, C, D>
         ensures { result ≡ notes (C.ticket_of right.now) (C.slot_of right.now) count }
     {
         Done {
@@ -74,7 +75,7 @@ impl<L: Link, C: Right> Done<L, C> {
     }
 
     /// It handed in an end, which was recorded.
-    pub fn recorded(finished: Snapshot<Finished<C>>) -> Done<L, C>
+    pub fn recorded(finished: Snapshot<Finished<C, D>>) -> Done<L, C, D>
         ensures { result ≡ finishes finished.value.end.ticket finished.value.end.outcome recorded }
     {
         Done {
@@ -83,7 +84,7 @@ impl<L: Link, C: Right> Done<L, C> {
     }
 
     /// It handed in an end, which was stale.
-    pub fn stale(finished: Snapshot<Finished<C>>) -> Done<L, C>
+    pub fn stale(finished: Snapshot<Finished<C, D>>) -> Done<L, C, D>
         ensures { result ≡ finishes finished.value.end.ticket finished.value.end.outcome stale }
     {
         Done {
@@ -92,7 +93,7 @@ impl<L: Link, C: Right> Done<L, C> {
     }
 
     /// It handed in an end, for which memory was refused.
-    pub fn lacking(finished: Snapshot<Finished<C>>) -> Done<L, C>
+    pub fn lacking(finished: Snapshot<Finished<C, D>>) -> Done<L, C, D>
         ensures { result ≡ finishes finished.value.end.ticket finished.value.end.outcome lacking }
     {
         Done {
@@ -101,7 +102,7 @@ impl<L: Link, C: Right> Done<L, C> {
     }
 
     /// It handed in an end, but its seat was another handle's.
-    pub fn unseated(finished: Snapshot<Finished<C>>) -> Done<L, C>
+    pub fn unseated(finished: Snapshot<Finished<C, D>>) -> Done<L, C, D>
         ensures { result ≡ finishes finished.value.end.ticket finished.value.end.outcome unseated }
     {
         Done {
@@ -110,7 +111,7 @@ impl<L: Link, C: Right> Done<L, C> {
     }
 
     /// It gave a transfer back, which went back to the queue.
-    pub fn returned(held: Snapshot<Held<L, C>>) -> Done<L, C>
+    pub fn returned(held: Snapshot<Claimed<L, C, D>>) -> Done<L, C, D>
         ensures { result ≡ gives_back held.value.held returned }
     {
         Done {
@@ -119,7 +120,7 @@ impl<L: Link, C: Right> Done<L, C> {
     }
 
     /// It gave a transfer back, which had ended before.
-    pub fn ended_before(held: Snapshot<Held<L, C>>) -> Done<L, C>
+    pub fn ended_before(held: Snapshot<Claimed<L, C, D>>) -> Done<L, C, D>
         ensures { result ≡ gives_back held.value.held ended_before }
     {
         Done {
@@ -128,7 +129,7 @@ impl<L: Link, C: Right> Done<L, C> {
     }
 
     /// It gave a transfer back, but its seat was another handle's.
-    pub fn unreturned(held: Snapshot<Held<L, C>>) -> Done<L, C>
+    pub fn unreturned(held: Snapshot<Claimed<L, C, D>>) -> Done<L, C, D>
         ensures { result ≡ gives_back held.value.held unreturned }
     {
         Done {

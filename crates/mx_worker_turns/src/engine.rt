@@ -7,6 +7,7 @@ ghost use Rattle.mx_request.specs.Request.{request_origin};
 ghost use Rattle.mx_turn.specs.Turn.{IsLate, longest_wait, time_left};
 
 use mx_link::Link;
+use mx_sink::Delivery;
 use mx_transfer::{Outcome, Transfer};
 use mx_types::{Look, Ticket};
 use std::marker::Model;
@@ -36,24 +37,24 @@ pub trait Right: Tied + Drop {
 }
 
 // rule worker-own-claim: A worker records an end only with the claim of its own transfer: both are of one request, by the invariants of
-// `Held` and `Finished`.
+// `Claimed` and `Finished`.
 /// A claimed transfer, which has not ended, and the right to it, which is of its request. Contracts see the ticket, the slot, the state of
 /// the transfer, and of which list of ties the right is. The transfer is boxed, since it goes from list to list in each turn.
-pub struct Held<L: Link, C: Right> {
+pub struct Claimed<L: Link, C: Right, D: Delivery> {
     pub(crate) right: C,
-    pub(crate) transfer: Box<Transfer<L>>,
+    pub(crate) transfer: Box<Transfer<L, D>>,
 }
 
 // Written out, and not derived: a crate that drops one cites its proof.
-impl<L: Link, C: Right> Drop for Held<L, C> {
+impl<L: Link, C: Right, D: Delivery> Drop for Claimed<L, C, D> {
     fn drop(self) {
-        let Held { right, transfer } = self;
+        let Claimed { right, transfer } = self;
         drop(right);
         drop(transfer);
     }
 }
 
-impl<L: Link, C: Right> Model for Held<L, C> {
+impl<L: Link, C: Right, D: Delivery> Model for Claimed<L, C, D> {
     ghost use Rattle.std.specs.Prelude.{◌≡◌, None};
     ghost use Rattle.mx_request.specs.Request.{request_origin};
     ghost use Rattle.mx_worker_turns.specs.WorkerSteps.{HeldView};
@@ -65,27 +66,27 @@ impl<L: Link, C: Right> Model for Held<L, C> {
     ghost invariant = { λ h. (h.transfer.value.chain.code ≡ None) × (request_origin h.transfer.value.chain.request ≡ C.origin_of h.right) };
 }
 
-impl<L: Link, C: Right> Tied for Held<L, C> {
+impl<L: Link, C: Right, D: Delivery> Tied for Claimed<L, C, D> {
     ghost of = { λ h. h.of };
 }
 
-impl<L: Link, C: Right> Held<L, C> {
+impl<L: Link, C: Right, D: Delivery> Claimed<L, C, D> {
     /// A transfer with the right to it.
-    pub fn new(right: C, transfer: Box<Transfer<L>>) -> Held<L, C>
+    pub fn new(right: C, transfer: Box<Transfer<L, D>>) -> Claimed<L, C, D>
         requires running { transfer.value.chain.code ≡ None }
         requires origin { request_origin transfer.value.chain.request ≡ C.origin_of right }
         ensures { result ≡ record { held = record { ticket = C.ticket_of right; slot = C.slot_of right; transfer = transfer.value.chain }; of = C.of right } }
     {
-        Held { right, transfer }
+        Claimed { right, transfer }
     }
 
     /// The right and the transfer, by move.
-    pub fn into_parts(self) -> (C, Box<Transfer<L>>)
+    pub fn into_parts(self) -> (C, Box<Transfer<L, D>>)
         ensures parts { self ≡ record { held = record { ticket = C.ticket_of result.0; slot = C.slot_of result.0; transfer = result.1.value.chain }; of = C.of result.0 } }
         ensures running { result.1.value.chain.code ≡ None }
         ensures origin { request_origin result.1.value.chain.request ≡ C.origin_of result.0 }
     {
-        let Held { right, transfer } = self;
+        let Claimed { right, transfer } = self;
         (right, transfer)
     }
 
@@ -147,13 +148,13 @@ impl<L: Link, C: Right> Held<L, C> {
 // rule worker-own-claim
 /// The right to a claimed transfer, and the outcome that ends it, which are of one request. Contracts see the ticket, the outcome, and of
 /// which list of ties the right is.
-pub struct Finished<C: Right> {
+pub struct Finished<C: Right, D: Delivery> {
     pub(crate) right: C,
-    pub(crate) outcome: Outcome,
+    pub(crate) outcome: Outcome<D>,
 }
 
 // Written out, and not derived: a crate that drops one cites its proof.
-impl<C: Right> Drop for Finished<C> {
+impl<C: Right, D: Delivery> Drop for Finished<C, D> {
     fn drop(self) {
         let Finished { right, outcome } = self;
         drop(right);
@@ -161,7 +162,7 @@ impl<C: Right> Drop for Finished<C> {
     }
 }
 
-impl<C: Right> Model for Finished<C> {
+impl<C: Right, D: Delivery> Model for Finished<C, D> {
     ghost use Rattle.std.specs.Prelude.{◌≡◌};
     ghost use Rattle.mx_request.specs.Request.{request_origin};
     ghost use Rattle.mx_worker_turns.specs.WorkerSteps.{EndView};
@@ -173,13 +174,13 @@ impl<C: Right> Model for Finished<C> {
     ghost invariant = { λ f. request_origin f.outcome.request ≡ C.origin_of f.right };
 }
 
-impl<C: Right> Tied for Finished<C> {
+impl<C: Right, D: Delivery> Tied for Finished<C, D> {
     ghost of = { λ f. f.of };
 }
 
-impl<C: Right> Finished<C> {
+impl<C: Right, D: Delivery> Finished<C, D> {
     /// An outcome with the right to the transfer that it ends.
-    pub fn new(right: C, outcome: Outcome) -> Finished<C>
+    pub fn new(right: C, outcome: Outcome<D>) -> Finished<C, D>
         requires { request_origin outcome.request ≡ C.origin_of right }
         ensures { result ≡ record { end = record { ticket = C.ticket_of right; outcome = outcome }; of = C.of right } }
     {
@@ -187,7 +188,7 @@ impl<C: Right> Finished<C> {
     }
 
     /// The right and the outcome, by move.
-    pub fn into_parts(self) -> (C, Outcome)
+    pub fn into_parts(self) -> (C, Outcome<D>)
         ensures parts { self ≡ record { end = record { ticket = C.ticket_of result.0; outcome = result.1 }; of = C.of result.0 } }
         ensures origin { request_origin result.1.request ≡ C.origin_of result.0 }
     {
@@ -198,7 +199,7 @@ impl<C: Right> Finished<C> {
 
 /// The engine, through a seat of the worker's own. It gives rights of its own list of ties, and takes these alone. `finish` takes the end
 /// out of an `Option`, where it stays if refused: the prover covers no impl of a trait whose methods take such a value by move.
-pub trait Engine<L: Link, C: Right>: Tied + Drop {
+pub trait Engine<L: Link, C: Right, D: Delivery>: Tied + Drop {
     /// What contracts know of the engine as it began.
     type Start;
 
@@ -212,7 +213,7 @@ pub trait Engine<L: Link, C: Right>: Tied + Drop {
     ghost start: { Self → Self.Start };
 
     /// Asks for a transfer.
-    fn claim<R: Wait>(&mut self, rt: &R) -> Option<Held<L, C>>
+    fn claim<R: Wait>(&mut self, rt: &R) -> Option<Claimed<L, C, D>>
         ensures did { did self.new ≡ did self.old ++ claims (option_map (λ h. h.held) result) ∷ [] }
         ensures own { IfSome result (λ h. h.of ≡ Self.of self.old) }
         ensures same { (Self.of self.new ≡ Self.of self.old) × (start self.new ≡ start self.old) };
@@ -228,13 +229,13 @@ pub trait Engine<L: Link, C: Right>: Tied + Drop {
         ensures same { (Self.of self.new ≡ Self.of self.old) × (start self.new ≡ start self.old) };
 
     /// Hands in an end. One that is refused memory stays in its place.
-    fn finish<R: Wait>(&mut self, rt: &R, finished: &mut Option<Finished<C>>)
+    fn finish<R: Wait>(&mut self, rt: &R, finished: &mut Option<Finished<C, D>>)
         requires own { IfSome finished.old (λ f. f.of ≡ Self.of self.old) }
         ensures did { IfSome finished.old (λ f. HandsIn (did self.old) (did self.new) f finished.new) }
         ensures same { (Self.of self.new ≡ Self.of self.old) × (start self.new ≡ start self.old) };
 
     /// Gives a transfer back.
-    fn give_back<R: Wait>(&mut self, rt: &R, held: &mut Option<Held<L, C>>)
+    fn give_back<R: Wait>(&mut self, rt: &R, held: &mut Option<Claimed<L, C, D>>)
         requires own { IfSome held.old (λ h. h.of ≡ Self.of self.old) }
         ensures did { IfSome held.old (λ h. (r : Return) × (did self.new ≡ did self.old ++ gives_back h.held r ∷ [])) }
         ensures same { (Self.of self.new ≡ Self.of self.old) × (start self.new ≡ start self.old) };

@@ -3,9 +3,10 @@ ghost use Rattle.std.specs.Prelude.{◌≡◌, ◌<◌, ◌≤◌, ◌↔◌, �
 ghost use Rattle.mx_types.specs.Limits.{most_transfers};
 ghost use Rattle.mx_worker_turns.specs.WorkerSteps.{in_flight_count};
 
-use crate::engine::{Finished, Held, Right, Tied};
+use crate::engine::{Claimed, Finished, Right, Tied};
 use crate::queue::Queue;
 use mx_link::Link;
+use mx_sink::Delivery;
 use mx_types::{MOST_TRANSFERS, OutOfMemory};
 use std::alloc::Global;
 use std::marker::Model;
@@ -14,12 +15,12 @@ use std::mem;
 /// The transfers that a worker holds, in order of claim, and the ends that were refused memory: at most [`MOST_TRANSFERS`] together, all of
 /// one engine. Contracts see both lists, and of which list of ties they are.
 #[derive(Drop)]
-pub(crate) struct InFlight<L: Link, C: Right, E: Tied> {
-    held: Queue<Held<L, C>, E>,
-    set_aside: Queue<Finished<C>, E>,
+pub(crate) struct InFlight<L: Link, C: Right, D: Delivery, E: Tied> {
+    held: Queue<Claimed<L, C, D>, E>,
+    set_aside: Queue<Finished<C, D>, E>,
 }
 
-impl<L: Link, C: Right, E: Tied> Model for InFlight<L, C, E> {
+impl<L: Link, C: Right, D: Delivery, E: Tied> Model for InFlight<L, C, D, E> {
     ghost use Rattle.std.specs.Prelude.{◌≡◌, ◌+◌, ◌≤◌, length, map};
     ghost use Rattle.mx_types.specs.Limits.{most_transfers};
     ghost use Rattle.mx_worker_turns.specs.WorkerSteps.{InFlightView};
@@ -31,9 +32,9 @@ impl<L: Link, C: Right, E: Tied> Model for InFlight<L, C, E> {
     ghost invariant = { λ r. (length r.held.items + length r.set_aside.items ≤ most_transfers) × (r.set_aside.of ≡ r.held.of) };
 }
 
-impl<L: Link, C: Right, E: Tied> InFlight<L, C, E> {
+impl<L: Link, C: Right, D: Delivery, E: Tied> InFlight<L, C, D, E> {
     /// Nothing in flight, and room for as many as there may be.
-    pub fn new(alloc: Global, engine: &E) -> Result<InFlight<L, C, E>, OutOfMemory>
+    pub fn new(alloc: Global, engine: &E) -> Result<InFlight<L, C, D, E>, OutOfMemory>
         ensures { IfOk result (λ in_flight. in_flight ≡ record { held = []; set_aside = []; of = E.of engine.now }) }
     {
         let (held, set_aside) = Queue::pair(alloc, engine)?;
@@ -54,14 +55,14 @@ impl<L: Link, C: Right, E: Tied> InFlight<L, C, E> {
     }
 
     /// The transfers that it holds.
-    pub fn held(&self) -> &Queue<Held<L, C>, E>
+    pub fn held(&self) -> &Queue<Claimed<L, C, D>, E>
         ensures { map (λ h. h.held) result.now.items ≡ self.now.held }
     {
         &self.held
     }
 
     /// Gives the queue of the transfers that it holds, and takes this one in its place.
-    pub fn swap_held(&mut self, spare: &mut Queue<Held<L, C>, E>)
+    pub fn swap_held(&mut self, spare: &mut Queue<Claimed<L, C, D>, E>)
         requires spare { spare.old.items ≡ [] }
         requires of { spare.old.of ≡ self.old.of }
         ensures left { self.new ≡ record self.old { held = [] } }
@@ -73,7 +74,7 @@ impl<L: Link, C: Right, E: Tied> InFlight<L, C, E> {
     }
 
     /// Gives the ends that were refused memory, likewise.
-    pub fn swap_set_aside(&mut self, spare: &mut Queue<Finished<C>, E>)
+    pub fn swap_set_aside(&mut self, spare: &mut Queue<Finished<C, D>, E>)
         requires spare { spare.old.items ≡ [] }
         requires of { spare.old.of ≡ self.old.of }
         ensures left { self.new ≡ record self.old { set_aside = [] } }
@@ -85,7 +86,7 @@ impl<L: Link, C: Right, E: Tied> InFlight<L, C, E> {
     }
 
     /// Adds a transfer after the others.
-    pub fn hold(&mut self, held: Held<L, C>)
+    pub fn hold(&mut self, held: Claimed<L, C, D>)
         requires room { in_flight_count self.old < most_transfers }
         requires of { held.of ≡ self.old.of }
         ensures { self.new ≡ record self.old { held = self.old.held ++ held.held ∷ [] } }
@@ -94,7 +95,7 @@ impl<L: Link, C: Right, E: Tied> InFlight<L, C, E> {
     }
 
     /// Adds an end that was refused memory after the others.
-    pub fn set_aside(&mut self, finished: Finished<C>)
+    pub fn set_aside(&mut self, finished: Finished<C, D>)
         requires room { in_flight_count self.old < most_transfers }
         requires of { finished.of ≡ self.old.of }
         ensures { self.new ≡ record self.old { set_aside = self.old.set_aside ++ finished.end ∷ [] } }

@@ -3,10 +3,11 @@ ghost use Rattle.std.specs.Prelude.{◌≡◌, ℕ, Option, ◌+◌, ◌<◌, �
 ghost use Rattle.mx_exchange.specs.Exchanges.{IsDue};
 ghost use Rattle.mx_worker_turns.specs.Picks.{Bounds, IsBounded, TakesDue, Picks, PicksDue};
 
-use crate::engine::{Held, Right, Tied};
+use crate::engine::{Claimed, Right, Tied};
 use crate::queue::Queue;
 use mx_gate::Gate;
 use mx_link::Link;
+use mx_sink::Delivery;
 
 // Whether the deadline has come.
 fn is_due(deadline: Option<u64>, now: u64) -> bool
@@ -31,7 +32,9 @@ fn earlier(one: Option<u64>, other: Option<u64>) -> Option<u64>
 }
 
 /// A deadline before which none of these comes.
-pub(crate) fn least_deadline<L: Link, C: Right, E: Tied>(todo: &Queue<Held<L, C>, E>) -> Option<u64>
+pub(crate) fn least_deadline<L: Link, C: Right, D: Delivery, E: Tied>(
+    todo: &Queue<Claimed<L, C, D>, E>,
+) -> Option<u64>
     ensures { All (IsBounded result) todo.now.items }
 {
     let mut least = None;
@@ -44,11 +47,11 @@ pub(crate) fn least_deadline<L: Link, C: Right, E: Tied>(todo: &Queue<Held<L, C>
 // rule turn-order
 // Takes one that is due, while there is one. None is due before `least`, a lower bound of all deadlines, which is updated where it had come
 // and none was due.
-fn take_due<L: Link, C: Right, E: Tied>(
-    todo: &mut Queue<Held<L, C>, E>,
+fn take_due<L: Link, C: Right, D: Delivery, E: Tied>(
+    todo: &mut Queue<Claimed<L, C, D>, E>,
     least: &mut Option<u64>,
     now: u64,
-) -> Option<Held<L, C>>
+) -> Option<Claimed<L, C, D>>
     requires bound { All (IsBounded least.old) todo.old.items }
     ensures bound { All (IsBounded least.new) todo.new.items }
     ensures taken { TakesDue now todo.old.items result todo.new.items }
@@ -70,13 +73,13 @@ fn take_due<L: Link, C: Right, E: Tied>(
 // rule turn-clock
 // Takes one that is due. Where none is, it reads the clock, unless `is_new` says that none was polled since the last reading; then one may
 // be due.
-fn take_due_by<L: Link, C: Right, E: Tied, G: Gate>(
+fn take_due_by<L: Link, C: Right, D: Delivery, E: Tied, G: Gate>(
     gate: &mut G,
-    todo: &mut Queue<Held<L, C>, E>,
+    todo: &mut Queue<Claimed<L, C, D>, E>,
     least: &mut Option<u64>,
     now: &mut u64,
     is_new: bool,
-) -> Option<Held<L, C>>
+) -> Option<Claimed<L, C, D>>
     requires bound { All (IsBounded least.old) todo.old.items }
     ensures bound { All (IsBounded least.new) todo.new.items }
     ensures taken { PicksDue now.old now.new is_new todo.old.items result todo.new.items (G.said gate.old) (G.said gate.new) }
@@ -95,13 +98,13 @@ fn take_due_by<L: Link, C: Right, E: Tied, G: Gate>(
 
 // rule turn-order
 /// Takes the one that is looked at next: one that is due, while there is one, else the first. The moment is the one at which it is.
-pub(crate) fn take_next<L: Link, C: Right, E: Tied, G: Gate>(
+pub(crate) fn take_next<L: Link, C: Right, D: Delivery, E: Tied, G: Gate>(
     gate: &mut G,
-    todo: &mut Queue<Held<L, C>, E>,
+    todo: &mut Queue<Claimed<L, C, D>, E>,
     least: &mut Option<u64>,
     now: &mut u64,
     is_new: bool,
-) -> Option<Held<L, C>>
+) -> Option<Claimed<L, C, D>>
     requires bound { All (IsBounded least.old) todo.old.items }
     requires some { 0 < length todo.old.items }
     ensures bound { All (IsBounded least.new) todo.new.items }

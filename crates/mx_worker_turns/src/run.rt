@@ -6,6 +6,7 @@ use crate::engine::{Engine, Right};
 use crate::worker::Worker;
 use mx_gate::Gate;
 use mx_link::Link;
+use mx_sink::Delivery;
 use std::alloc::AllocGlobal;
 use std::random::RandomSource;
 use std::sync::Wait;
@@ -15,7 +16,8 @@ use std::sync::Wait;
 pub fn run_at<
     L: Link,
     C: Right,
-    E: Engine<L, C>,
+    D: Delivery,
+    E: Engine<L, C, D>,
     R: Wait + RandomSource + AllocGlobal,
     G: Gate<Link = L>,
 >(rt: &R, engine: E, limit: u8, gate: &mut G) -> Result<E, E>

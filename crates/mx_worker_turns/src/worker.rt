@@ -4,14 +4,15 @@ ghost use Rattle.mx_turn.specs.Workers.{IsOver, starts};
 ghost use Rattle.mx_turn.specs.Turn.{WorkerTurn, Runs};
 ghost use Rattle.mx_worker_turns.specs.WorkerSteps.{beside};
 
-use crate::engine::{Engine, Finished, Held, Right};
+use crate::engine::{Claimed, Engine, Finished, Right};
 use crate::in_flight::InFlight;
+use crate::lent::Lent;
 use crate::queue::Queue;
 use crate::worker_core::WorkerCore;
 use futures::task::{Doorbell, Solo};
-use mx_chain::ReadBuffer;
 use mx_gate::Gate;
 use mx_link::Link;
+use mx_sink::Delivery;
 use mx_turn::Links;
 use std::alloc::AllocGlobal;
 use std::marker::Model;
@@ -23,13 +24,13 @@ use std::sync::Wait;
 ///
 /// The spare queues are empty between its turns. A turn swaps what it holds into one of them, and goes through that.
 #[derive(Drop)]
-pub struct Worker<L: Link, C: Right, E: Engine<L, C>> {
-    core: WorkerCore<L, C, E>,
-    spare_held: Queue<Held<L, C>, E>,
-    spare_ends: Queue<Finished<C>, E>,
+pub struct Worker<L: Link, C: Right, D: Delivery, E: Engine<L, C, D>> {
+    core: WorkerCore<L, C, D, E>,
+    spare_held: Queue<Claimed<L, C, D>, E>,
+    spare_ends: Queue<Finished<C, D>, E>,
 }
 
-impl<L: Link, C: Right, E: Engine<L, C>> Model for Worker<L, C, E> {
+impl<L: Link, C: Right, D: Delivery, E: Engine<L, C, D>> Model for Worker<L, C, D, E> {
     ghost use Rattle.std.specs.Prelude.{◌≡◌, []};
     ghost use Rattle.mx_worker_turns.specs.WorkerSteps.{WorkerView};
 
@@ -42,24 +43,24 @@ impl<L: Link, C: Right, E: Engine<L, C>> Model for Worker<L, C, E> {
 
 // The queues that a worker needs memory for.
 #[derive(Drop)]
-struct Queues<L: Link, C: Right, E: Engine<L, C>> {
-    in_flight: InFlight<L, C, E>,
-    spare_held: Queue<Held<L, C>, E>,
-    spare_ends: Queue<Finished<C>, E>,
+struct Queues<L: Link, C: Right, D: Delivery, E: Engine<L, C, D>> {
+    in_flight: InFlight<L, C, D, E>,
+    spare_held: Queue<Claimed<L, C, D>, E>,
+    spare_ends: Queue<Finished<C, D>, E>,
 }
 
 // All that a worker needs memory for.
 #[derive(Drop)]
-struct Tools<L: Link, C: Right, E: Engine<L, C>> {
-    queues: Queues<L, C, E>,
+struct Tools<L: Link, C: Right, D: Delivery, E: Engine<L, C, D>> {
+    queues: Queues<L, C, D, E>,
     links: Links<L>,
     solo: Solo,
 }
 
-fn make_queues<L: Link, C: Right, E: Engine<L, C>, R: AllocGlobal>(
+fn make_queues<L: Link, C: Right, D: Delivery, E: Engine<L, C, D>, R: AllocGlobal>(
     rt: &R,
     engine: &E,
-) -> Option<Queues<L, C, E>>
+) -> Option<Queues<L, C, D, E>>
     ensures in_flight { IfSome result (λ q. q.in_flight ≡ record { held = []; set_aside = []; of = E.of engine.now }) }
     ensures held { IfSome result (λ q. q.spare_held ≡ record { items = []; of = E.of engine.now }) }
     ensures ends { IfSome result (λ q. q.spare_ends ≡ record { items = []; of = E.of engine.now }) }
@@ -91,11 +92,11 @@ fn make_links<L: Link, R: RandomSource + AllocGlobal>(rt: &R, limit: u8) -> Opti
     Some((links, solo))
 }
 
-fn make_tools<L: Link, C: Right, E: Engine<L, C>, R: RandomSource + AllocGlobal>(
+fn make_tools<L: Link, C: Right, D: Delivery, E: Engine<L, C, D>, R: RandomSource + AllocGlobal>(
     rt: &R,
     engine: &E,
     limit: u8,
-) -> Option<Tools<L, C, E>>
+) -> Option<Tools<L, C, D, E>>
     ensures in_flight { IfSome result (λ t. t.queues.in_flight ≡ record { held = []; set_aside = []; of = E.of engine.now }) }
     ensures links { IfSome result (λ t. t.links ≡ record { links = []; limit = limit }) }
     ensures held { IfSome result (λ t. t.queues.spare_held ≡ record { items = []; of = E.of engine.now }) }
@@ -115,13 +116,13 @@ fn make_tools<L: Link, C: Right, E: Engine<L, C>, R: RandomSource + AllocGlobal>
     })
 }
 
-impl<L: Link, C: Right, E: Engine<L, C>> Worker<L, C, E> {
+impl<L: Link, C: Right, D: Delivery, E: Engine<L, C, D>> Worker<L, C, D, E> {
     /// A worker with nothing in flight, and with room for so many idle links. Where memory is refused, the engine comes back.
     pub fn new<R: RandomSource + AllocGlobal>(
         rt: &R,
         engine: E,
         limit: u8,
-    ) -> Result<Worker<L, C, E>, E>
+    ) -> Result<Worker<L, C, D, E>, E>
         ensures { MatchResult result (λ w. w ≡ record { worker = record (starts limit) { did = E.did engine }; of = E.of engine; start = E.start engine }) (λ back. back ≡ engine) }
     {
         let Some(tools) = make_tools(rt, &engine, limit) else {
@@ -138,7 +139,7 @@ impl<L: Link, C: Right, E: Engine<L, C>> Worker<L, C, E> {
             spare_ends,
         } = queues;
         Ok(Worker {
-            core: WorkerCore::new(engine, in_flight, links, solo, ReadBuffer::new(rt.alloc())),
+            core: WorkerCore::new(engine, in_flight, links, solo, Lent::new(rt.alloc())),
             spare_held,
             spare_ends,
         })

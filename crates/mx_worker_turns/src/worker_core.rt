@@ -4,22 +4,22 @@ ghost use Rattle.mx_types.specs.Limits.{most_transfers};
 ghost use Rattle.mx_types.specs.declared.reply.Look.TheVariants as look;
 ghost use Rattle.mx_request.specs.Request.{request_origin};
 ghost use Rattle.mx_exchange.specs.Exchanges.{WantsLink};
-ghost use Rattle.mx_chain.specs.Steps.{Steps};
 ghost use Rattle.mx_transfer.specs.Transfers.{IfEnded, IfGoing, how_of};
 ghost use Rattle.mx_gate.specs.Said.{is_stop};
 ghost use Rattle.mx_turn.specs.Workers.{Return, gives_back, in_hand, does, holds, IsOver};
 ghost use Rattle.mx_turn.specs.Turn.{Each, Claims, Retries, LooksAt, GivesBack, GoesThrough, Stops, WorkerTurn, is_go, longest_wait, prepared, time_left, wait_of};
-ghost use Rattle.mx_worker_turns.specs.WorkerSteps.{Advances, HandsIn, IsReadied, Polls, Relieves, beside};
+ghost use Rattle.mx_worker_turns.specs.WorkerSteps.{Advances, HandsIn, IsPolled, IsReadied, Polls, Relieves, beside};
 
-use crate::engine::{Engine, Finished, Held, LONGEST_WAIT, Right, Tied};
+use crate::engine::{Claimed, Engine, Finished, LONGEST_WAIT, Right, Tied};
 use crate::in_flight::InFlight;
+use crate::lent::Lent;
 use crate::next::{least_deadline, take_next};
 use crate::queue::Queue;
 use futures::Future;
 use futures::task::{Poll, Solo};
-use mx_chain::ReadBuffer;
 use mx_gate::{Gate, Turn};
 use mx_link::Link;
+use mx_sink::Delivery;
 use mx_transfer::{Polled, Transfer};
 use mx_turn::Links;
 use mx_types::Look;
@@ -28,18 +28,17 @@ use std::sync::Wait;
 
 /// A worker without its spare queues. Contracts see the worker, of which list of ties its claims are, and how its engine began.
 #[derive(Drop)]
-pub(crate) struct WorkerCore<L: Link, C: Right, E: Engine<L, C>> {
+pub(crate) struct WorkerCore<L: Link, C: Right, D: Delivery, E: Engine<L, C, D>> {
     engine: E,
-    in_flight: InFlight<L, C, E>,
+    in_flight: InFlight<L, C, D, E>,
     links: Links<L>,
     solo: Solo,
-    // Of the reads of each poll.
-    buffer: ReadBuffer,
+    lent: Lent,
     is_stopping: bool,
     can_go_on: bool,
 }
 
-impl<L: Link, C: Right, E: Engine<L, C>> Model for WorkerCore<L, C, E> {
+impl<L: Link, C: Right, D: Delivery, E: Engine<L, C, D>> Model for WorkerCore<L, C, D, E> {
     ghost use Rattle.std.specs.Prelude.{◌≡◌, []};
     ghost use Rattle.mx_worker_turns.specs.WorkerSteps.{WorkerView};
 
@@ -55,7 +54,10 @@ impl<L: Link, C: Right, E: Engine<L, C>> Model for WorkerCore<L, C, E> {
 }
 
 // The lesser of the longest wait and the milliseconds to the next deadline of these.
-fn least_left<L: Link, C: Right, E: Tied>(held: &Queue<Held<L, C>, E>, now: u64) -> u32
+fn least_left<L: Link, C: Right, D: Delivery, E: Tied>(
+    held: &Queue<Claimed<L, C, D>, E>,
+    now: u64,
+) -> u32
     ensures { result ≡ fold (λ ms h. min ms (time_left now h.held.transfer.now.deadline)) longest_wait held.now.items }
 {
     let mut least = LONGEST_WAIT as u32;
@@ -65,24 +67,28 @@ fn least_left<L: Link, C: Right, E: Tied>(held: &Queue<Held<L, C>, E>, now: u64)
     least
 }
 
-// One poll, in the context of the worker's one task, with this buffer for its reads. The task goes on whatever the poll answers.
+// One poll, in the context of the worker's one task, with the memory that the worker lends. The task goes on whatever the poll answers.
 // A task that has ended can't say whether a poll asked for another.
-fn poll_once<L: Link>(solo: &Solo, buffer: &mut ReadBuffer, transfer: &mut Transfer<L>) -> Polled
+fn poll_once<L: Link, D: Delivery>(
+    solo: &Solo,
+    lent: &mut Lent,
+    transfer: &mut Transfer<L, D>,
+) -> Polled<D>
     requires running { transfer.old.chain.code ≡ None }
-    ensures steps { Steps L.history transfer.old.chain transfer.new.chain (how_of result) }
+    ensures steps { IsPolled L.history transfer.old.chain transfer.new.chain (how_of result) }
     ensures value { IfEnded result (λ o. o.request ≡ transfer.old.chain.request) }
     ensures again { IfGoing result (transfer.new.chain.code ≡ None) }
     ensures same { IfGoing result (transfer.new.chain.request ≡ transfer.old.chain.request) }
 {
     let mut cx = solo.begin();
-    transfer.swap_buffer(buffer);
+    lent.swap(transfer);
     let polled = transfer.poll(&mut cx);
-    transfer.swap_buffer(buffer);
+    lent.swap(transfer);
     match polled {
         Poll::Ready(ended) => {
             let _again: Poll<()> = cx.yield_now();
             cx.park();
-            Polled::Ended(ended.into_outcome())
+            Polled::Ended(ended)
         }
         Poll::Pending => {
             cx.park();
@@ -96,7 +102,7 @@ fn poll_once<L: Link>(solo: &Solo, buffer: &mut ReadBuffer, transfer: &mut Trans
 }
 
 // Whether a transfer wants a link.
-fn wants_link<L: Link>(transfer: &Transfer<L>) -> bool
+fn wants_link<L: Link, D: Delivery>(transfer: &Transfer<L, D>) -> bool
     ensures { IsTrue result ↔ WantsLink transfer.now.chain.now }
 {
     transfer.wants().is_some()
@@ -117,6 +123,14 @@ fn may_go(seen: Option<Look>) -> bool
     matches!(seen, Some(Look::Go))
 }
 
+// rule turn-room
+// Whether a transfer goes on: one that may, and whose delivery has room.
+fn goes_on(may_go: bool, has_room: bool) -> bool
+    ensures { result ≡ (may_go && has_room) }
+{
+    may_go && has_room
+}
+
 // rule turn-wait-for-link
 // Whether a transfer that waits could go on at once: one that may go on, and wants a link that may be opened.
 fn could_go_on(goes: bool, delayed: bool, wants: bool) -> bool
@@ -126,11 +140,11 @@ fn could_go_on(goes: bool, delayed: bool, wants: bool) -> bool
 }
 
 // Hands in an end. One that is refused memory comes back.
-fn hand_in<L: Link, C: Right, E: Engine<L, C>, R: Wait>(
+fn hand_in<L: Link, C: Right, D: Delivery, E: Engine<L, C, D>, R: Wait>(
     rt: &R,
     engine: &mut E,
-    finished: Finished<C>,
-) -> Option<Finished<C>>
+    finished: Finished<C, D>,
+) -> Option<Finished<C, D>>
     requires own { finished.of ≡ E.of engine.old }
     ensures did { HandsIn (E.did engine.old) (E.did engine.new) finished result }
     ensures same { (E.of engine.new ≡ E.of engine.old) × (E.start engine.new ≡ E.start engine.old) }
@@ -140,14 +154,14 @@ fn hand_in<L: Link, C: Right, E: Engine<L, C>, R: Wait>(
     place
 }
 
-impl<L: Link, C: Right, E: Engine<L, C>> WorkerCore<L, C, E> {
+impl<L: Link, C: Right, D: Delivery, E: Engine<L, C, D>> WorkerCore<L, C, D, E> {
     pub fn new(
         engine: E,
-        in_flight: InFlight<L, C, E>,
+        in_flight: InFlight<L, C, D, E>,
         links: Links<L>,
         solo: Solo,
-        buffer: ReadBuffer,
-    ) -> WorkerCore<L, C, E>
+        lent: Lent,
+    ) -> WorkerCore<L, C, D, E>
         requires { in_flight.of ≡ E.of engine }
         ensures { result ≡ record {
           worker = record { held = in_flight.held; set_aside = in_flight.set_aside; idle = links; is_stopping = false; can_go_on = false; did = E.did engine; said = [] };
@@ -160,7 +174,7 @@ impl<L: Link, C: Right, E: Engine<L, C>> WorkerCore<L, C, E> {
             in_flight,
             links,
             solo,
-            buffer,
+            lent,
             is_stopping: false,
             can_go_on: false,
         }
@@ -175,13 +189,13 @@ impl<L: Link, C: Right, E: Engine<L, C>> WorkerCore<L, C, E> {
             in_flight,
             links,
             solo,
-            buffer,
+            lent,
             ..
         } = self;
         drop(in_flight);
         drop(links);
         drop(solo);
-        drop(buffer);
+        drop(lent);
         engine
     }
 
@@ -195,7 +209,7 @@ impl<L: Link, C: Right, E: Engine<L, C>> WorkerCore<L, C, E> {
 
     // rule turn-claims
     // Holds a transfer, after the others.
-    fn hold(&mut self, held: Held<L, C>)
+    fn hold(&mut self, held: Claimed<L, C, D>)
         requires room { in_hand self.old.worker < most_transfers }
         requires own { held.of ≡ self.old.of }
         ensures held { self.new ≡ record self.old { worker = holds self.old.worker held.held } }
@@ -211,7 +225,7 @@ impl<L: Link, C: Right, E: Engine<L, C>> WorkerCore<L, C, E> {
     }
 
     // Holds on to a transfer that was polled, which could go on at once, or couldn't.
-    fn hold_on(&mut self, right: C, transfer: Box<Transfer<L>>, could: bool)
+    fn hold_on(&mut self, right: C, transfer: Box<Transfer<L, D>>, could: bool)
         requires room { in_hand self.old.worker < most_transfers }
         requires own { C.of right ≡ self.old.of }
         requires running { transfer.value.chain.code ≡ None }
@@ -220,7 +234,7 @@ impl<L: Link, C: Right, E: Engine<L, C>> WorkerCore<L, C, E> {
         ensures same { self.new ≡ record self.old { worker = self.new.worker } }
     {
         self.go_on_if(could);
-        self.hold(Held::new(right, transfer));
+        self.hold(Claimed::new(right, transfer));
     }
 
     // rule turn-files
@@ -252,7 +266,7 @@ impl<L: Link, C: Right, E: Engine<L, C>> WorkerCore<L, C, E> {
     }
 
     // Hands in an end. One that is refused memory is set aside.
-    fn record<R: Wait>(&mut self, rt: &R, finished: Finished<C>)
+    fn record<R: Wait>(&mut self, rt: &R, finished: Finished<C, D>)
         requires room { in_hand self.old.worker < most_transfers }
         requires own { finished.of ≡ self.old.of }
         ensures retries { Retries finished.end self.old.worker self.new.worker }
@@ -271,7 +285,7 @@ impl<L: Link, C: Right, E: Engine<L, C>> WorkerCore<L, C, E> {
         gate: &mut G,
         now: u64,
         goes: bool,
-        transfer: &mut Transfer<L>,
+        transfer: &mut Transfer<L, D>,
     ) -> bool
         ensures ready { IsReadied L.history L.token_of (prepared now goes transfer.old.chain) transfer.new.chain goes result (beside self.old.worker (G.said gate.old)) (beside self.new.worker (G.said gate.new)) }
         ensures code { transfer.new.chain.code ≡ transfer.old.chain.code }
@@ -287,7 +301,7 @@ impl<L: Link, C: Right, E: Engine<L, C>> WorkerCore<L, C, E> {
 
     // rule turn-progress
     // Polls a transfer once, notes how many bytes it has received, and keeps the link that a hop left.
-    fn poll(&mut self, right: &C, transfer: &mut Transfer<L>) -> Polled
+    fn poll(&mut self, right: &C, transfer: &mut Transfer<L, D>) -> Polled<D>
         requires running { transfer.old.chain.code ≡ None }
         ensures polls { Polls L.history (record { ticket = C.ticket_of right.now; slot = C.slot_of right.now; transfer = transfer.old.chain }) transfer.new.chain self.old.worker self.new.worker (how_of result) }
         ensures value { IfEnded result (λ o. o.request ≡ transfer.old.chain.request) }
@@ -295,33 +309,36 @@ impl<L: Link, C: Right, E: Engine<L, C>> WorkerCore<L, C, E> {
         ensures request { IfGoing result (transfer.new.chain.request ≡ transfer.old.chain.request) }
         ensures same { self.new ≡ record self.old { worker = self.new.worker } }
     {
-        let stepped = poll_once(&self.solo, &mut self.buffer, transfer);
+        let stepped = poll_once(&self.solo, &mut self.lent, transfer);
         // Before the end is recorded: from then on the slot may be another transfer's.
         self.engine.note(right, transfer.received());
         self.links.keep(transfer);
         stepped
     }
 
-    // Makes a transfer ready, polls it once, and holds it on unless it has ended.
+    // rule turn-room
+    // Has the delivery of a transfer make room, makes the transfer ready, polls it once, and holds it on unless it has ended.
     fn advance<R: Wait, G: Gate<Link = L>>(
         &mut self,
         rt: &R,
         gate: &mut G,
         now: u64,
-        held: Held<L, C>,
-        goes: bool,
+        held: Claimed<L, C, D>,
+        may_go: bool,
     )
         requires room { in_hand self.old.worker < most_transfers }
         requires own { held.of ≡ self.old.of }
-        ensures advances { Advances L.history L.token_of now held.held goes (beside self.old.worker (G.said gate.old)) (beside self.new.worker (G.said gate.new)) }
+        ensures advances { Advances L.history L.token_of now held.held may_go (beside self.old.worker (G.said gate.old)) (beside self.new.worker (G.said gate.new)) }
         ensures same { self.new ≡ record self.old { worker = self.new.worker } }
     {
         let (right, mut transfer) = held.into_parts();
-        let lent: &mut Transfer<L> = &mut transfer;
-        let delayed = self.make_ready(gate, now, goes, lent);
-        match self.poll(&right, lent) {
+        let polled: &mut Transfer<L, D> = &mut transfer;
+        let has_room = polled.make_room();
+        let goes = goes_on(may_go, has_room);
+        let delayed = self.make_ready(gate, now, goes, polled);
+        match self.poll(&right, polled) {
             Polled::Waits => {
-                let wants = wants_link(lent);
+                let wants = wants_link(polled);
                 self.hold_on(right, transfer, could_go_on(goes, delayed, wants));
             }
             Polled::Asks => self.hold_on(right, transfer, goes),
@@ -334,7 +351,7 @@ impl<L: Link, C: Right, E: Engine<L, C>> WorkerCore<L, C, E> {
 
     // rule worker-requeued-deadline
     // Requeues a transfer as it is, with its link. It is held no more, whatever the answer is.
-    fn give_back<R: Wait>(&mut self, rt: &R, held: Held<L, C>)
+    fn give_back<R: Wait>(&mut self, rt: &R, held: Claimed<L, C, D>)
         requires own { held.of ≡ self.old.of }
         ensures gives { (r : Return) × (self.new.worker ≡ does self.old.worker (gives_back held.held r)) }
         ensures same { self.new ≡ record self.old { worker = self.new.worker } }
@@ -352,7 +369,7 @@ impl<L: Link, C: Right, E: Engine<L, C>> WorkerCore<L, C, E> {
         rt: &R,
         gate: &mut G,
         now: u64,
-        held: Held<L, C>,
+        held: Claimed<L, C, D>,
     )
         requires room { in_hand self.old.worker < most_transfers }
         requires own { held.of ≡ self.old.of }
@@ -368,7 +385,7 @@ impl<L: Link, C: Right, E: Engine<L, C>> WorkerCore<L, C, E> {
 
     // rule turn-stop
     // Gives a transfer back that has not started. One that has is held on.
-    fn hand_back<R: Wait>(&mut self, rt: &R, held: Held<L, C>)
+    fn hand_back<R: Wait>(&mut self, rt: &R, held: Claimed<L, C, D>)
         requires room { in_hand self.old.worker < most_transfers }
         requires own { held.of ≡ self.old.of }
         ensures gives { GivesBack held.held self.old.worker self.new.worker }
@@ -383,7 +400,7 @@ impl<L: Link, C: Right, E: Engine<L, C>> WorkerCore<L, C, E> {
 
     // rule turn-set-aside
     // Hands in the ends again that were set aside, in order.
-    fn retry_those<R: Wait>(&mut self, rt: &R, todo: &mut Queue<Finished<C>, E>)
+    fn retry_those<R: Wait>(&mut self, rt: &R, todo: &mut Queue<Finished<C, D>, E>)
         requires fits { length todo.old.items + in_hand self.old.worker ≤ most_transfers }
         requires own { todo.old.of ≡ self.old.of }
         ensures retries { Each Retries (map (λ e. e.end) todo.old.items) self.old.worker self.new.worker }
@@ -400,7 +417,7 @@ impl<L: Link, C: Right, E: Engine<L, C>> WorkerCore<L, C, E> {
     }
 
     // Gives back what has not started, in order, and holds on to the rest.
-    fn stop_those<R: Wait>(&mut self, rt: &R, todo: &mut Queue<Held<L, C>, E>)
+    fn stop_those<R: Wait>(&mut self, rt: &R, todo: &mut Queue<Claimed<L, C, D>, E>)
         requires fits { length todo.old.items + in_hand self.old.worker ≤ most_transfers }
         requires own { todo.old.of ≡ self.old.of }
         ensures gives { Each GivesBack (map (λ h. h.held) todo.old.items) self.old.worker self.new.worker }
@@ -423,7 +440,7 @@ impl<L: Link, C: Right, E: Engine<L, C>> WorkerCore<L, C, E> {
         rt: &R,
         gate: &mut G,
         now: u64,
-        todo: &mut Queue<Held<L, C>, E>,
+        todo: &mut Queue<Claimed<L, C, D>, E>,
     ) -> u64
         requires fits { length todo.old.items + in_hand self.old.worker ≤ most_transfers }
         requires own { todo.old.of ≡ self.old.of }
@@ -446,7 +463,7 @@ impl<L: Link, C: Right, E: Engine<L, C>> WorkerCore<L, C, E> {
     }
 
     // Tries the ends again that were set aside.
-    fn retry_all<R: Wait>(&mut self, rt: &R, todo: &mut Queue<Finished<C>, E>)
+    fn retry_all<R: Wait>(&mut self, rt: &R, todo: &mut Queue<Finished<C, D>, E>)
         requires spare { todo.old.items ≡ [] }
         requires own { todo.old.of ≡ self.old.of }
         ensures retries { Each Retries self.old.worker.set_aside (record self.old.worker { set_aside = [] }) self.new.worker }
@@ -463,7 +480,7 @@ impl<L: Link, C: Right, E: Engine<L, C>> WorkerCore<L, C, E> {
         rt: &R,
         gate: &mut G,
         now: u64,
-        todo: &mut Queue<Held<L, C>, E>,
+        todo: &mut Queue<Claimed<L, C, D>, E>,
     ) -> u64
         requires spare { todo.old.items ≡ [] }
         requires own { todo.old.of ≡ self.old.of }
@@ -487,7 +504,7 @@ impl<L: Link, C: Right, E: Engine<L, C>> WorkerCore<L, C, E> {
     }
 
     // Gives back what has not started, in order of claim.
-    fn stop<R: Wait>(&mut self, rt: &R, todo: &mut Queue<Held<L, C>, E>)
+    fn stop<R: Wait>(&mut self, rt: &R, todo: &mut Queue<Claimed<L, C, D>, E>)
         requires spare { todo.old.items ≡ [] }
         requires own { todo.old.of ≡ self.old.of }
         ensures gives { Each GivesBack self.old.worker.held (record self.old.worker { is_stopping = true; held = [] }) self.new.worker }
@@ -501,7 +518,7 @@ impl<L: Link, C: Right, E: Engine<L, C>> WorkerCore<L, C, E> {
 
     // rule turn-stop
     // Begins to stop where it is told to, else goes on.
-    fn hear<R: Wait>(&mut self, rt: &R, turn: Turn, todo: &mut Queue<Held<L, C>, E>)
+    fn hear<R: Wait>(&mut self, rt: &R, turn: Turn, todo: &mut Queue<Claimed<L, C, D>, E>)
         requires spare { todo.old.items ≡ [] }
         requires own { todo.old.of ≡ self.old.of }
         ensures stops { Stops (is_stop turn) self.old.worker.is_stopping self.old.worker self.new.worker }
@@ -518,8 +535,8 @@ impl<L: Link, C: Right, E: Engine<L, C>> WorkerCore<L, C, E> {
         &mut self,
         rt: &R,
         gate: &mut G,
-        held: &mut Queue<Held<L, C>, E>,
-        ends: &mut Queue<Finished<C>, E>,
+        held: &mut Queue<Claimed<L, C, D>, E>,
+        ends: &mut Queue<Finished<C, D>, E>,
     )
         requires held { held.old ≡ record { items = []; of = self.old.of } }
         requires ends { ends.old ≡ record { items = []; of = self.old.of } }

@@ -10,7 +10,7 @@ returns-clause-polls g c =
     rw (← c.self.view_is) (record {
       new = c.poll_once-stepped.new.transfer.chain;
       idle = c.keep.new.self;
-      steps = c.poll_once-stepped.ensures.steps;
+      polled = c.poll_once-stepped.ensures.steps;
       keeps = c.keep.ensures.kept;
       unlinks = ap (λ (t : TransferState _). t.chain) c.keep.ensures.rest;
       after = alike _ _ refl refl refl refl refl counted refl;
