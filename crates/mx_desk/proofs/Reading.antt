@@ -32,16 +32,16 @@ abbrev pub seats : {Q : Type 0} → View Q → Option (View Q) → SeatsView Q
 seats first beside = record { first = first; beside = beside }
 
 -- the seats read a message, or waited
-abbrev pub Reads : {Q E : Type 0} → SeatsView Q → SeatsView Q → Result (Option Told) E → Type 0
+abbrev pub Reads : {D Q E : Type 0} → SeatsView Q → SeatsView Q → Result (Option (Told D)) E → Type 0
 Reads old new r = IfOk r (λ o. MatchOption o (Wait old new) (λ t. AtSeat (ReadsMessage t.message.handle t.message.ticket t.message.outcome) t.is_beside old new))
 
-pub at_first : {Q E : Type 0} (old new : SeatsView Q) (r : Result (Option Told) E) → new.beside ≡ old.beside → IfOk r (λ o. IfSome o (λ t. t.is_beside ≡ false))
+pub at_first : {D Q E : Type 0} (old new : SeatsView Q) (r : Result (Option (Told D)) E) → new.beside ≡ old.beside → IfOk r (λ o. IfSome o (λ t. t.is_beside ≡ false))
     → IfOk r (λ o. MatchOption o (Waited old.first new.first) (λ t. ReadsMessage t.message.handle t.message.ticket t.message.outcome old.first new.first)) → Reads old new r
 at_first old new (Ok None) same place h = record { first = h; beside = beside_waits old.beside new.beside same }
 at_first old new (Ok (Some t)) same place h = subst (λ b. AtSeat (ReadsMessage t.message.handle t.message.ticket t.message.outcome) b old new) (sym place) (h, same)
 at_first old new (Err e) same place h = tt
 
-pub at_other : {Q E : Type 0} (old new : SeatsView Q) (s t : View Q) (r : Result (Option Told) E) → old.beside ≡ Some s → new.beside ≡ Some t → Waited old.first new.first
+pub at_other : {D Q E : Type 0} (old new : SeatsView Q) (s t : View Q) (r : Result (Option (Told D)) E) → old.beside ≡ Some s → new.beside ≡ Some t → Waited old.first new.first
     → IfOk r (λ o. IfSome o (λ x. x.is_beside ≡ true))
     → IfOk r (λ o. MatchOption o (Waited s t) (λ x. ReadsMessage x.message.handle x.message.ticket x.message.outcome s t)) → Reads old new r
 at_other old new s t (Ok None) a b waited place h = record { first = waited; beside = there Waited (new.beside ≡ None) old.beside new.beside s t a b h }

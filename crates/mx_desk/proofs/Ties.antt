@@ -11,7 +11,7 @@ use Rattle.mx_types.specs.declared.reply.Reply.TheVariants as reply
 use Rattle.mx_chain.specs.Outcomes.{OutcomeValue}
 use Rattle.mx_multi.specs.Seats.{SeatView, Stands}
 use Rattle.mx_append_log.proofs.Prefixes.{prefix_self, prefix_trans}
-use Rattle.mx_message.specs.Message.{IsNextMessage, Unread, Waited}
+use Rattle.mx_message.specs.Message.{IsNextEnd, Unread, Waited}
 use Rattle.mx_desk.specs.Ties.{AreLater, SeatTies}
 
 -- a seat that was answered, or was not, has been told no less
@@ -35,7 +35,7 @@ told_unread {Q} s t u = decide u.last where
   decide (inl e) = subst (λ (v : SeatView Q OutcomeValue). IsPrefix s.ties v.ties) (sym e) u.waited.later.ties
   decide (inr h) = prefix_trans s.ties u.at.ties t.ties u.waited.later.ties h.ties
 
-pub told_read : {Q : Type 0} (s t : SeatView Q OutcomeValue) (h : HandleId) (ticket : Ticket) (o : OutcomeValue) (left : ℕ) → IsNextMessage s t h ticket o left → IsPrefix s.ties t.ties
+pub told_read : {Q : Type 0} (s t : SeatView Q OutcomeValue) (h : HandleId) (ticket : Ticket) (o : OutcomeValue) (left : ℕ) → IsNextEnd s t h ticket o left → IsPrefix s.ties t.ties
 told_read s t h ticket o left m = prefix_trans s.ties m.at.ties t.ties m.waited.later.ties m.stands.ties
 
 -- one of two seats was told more

@@ -1,29 +1,25 @@
 -- The calls of a desk in the histories of its seats.
-use Rattle.std.specs.Prelude.{◌≡◌, ◌⊎◌, ℕ, Bool, true, false, List, length, Option, None, MatchOption, Result, Ok}
+use Rattle.std.specs.Prelude.{◌≡◌, ◌⊎◌, ℕ, Bool, true, false, List, Option, None, MatchOption, Result, Ok}
 use Rattle.mx_types.specs.declared.code.Code.{Code}
 use Rattle.mx_types.specs.declared.names.HandleId.{HandleId}
 use Rattle.mx_types.specs.declared.names.Ticket.{Ticket}
 use Rattle.mx_types.specs.declared.call.Call.TheVariants as call
 use Rattle.mx_types.specs.declared.reply.Reply.{Reply}
 use Rattle.mx_types.specs.declared.reply.Reply.TheVariants as reply
-use Rattle.mx_body.specs.Parts.{joined}
-use Rattle.mx_chain.specs.Outcomes.{OutcomeValue}
+use Rattle.mx_chain.specs.Outcomes.{OutcomeValue, size_of}
 use Rattle.mx_journal.specs.declared.replies.AddReply.{AddReply}
 use Rattle.mx_journal.specs.declared.replies.AddReply.TheVariants as add
 use Rattle.mx_multi.specs.Seats.{FindsOther, SeatView, Stands}
-use Rattle.mx_message.specs.Message.{IsNextMessage, Waited}
+use Rattle.mx_message.specs.Message.{IsNextEnd, Waited}
 use Rattle.mx_desk.specs.Ties.{SeatsView}
 
 -- the handle of a number
 abbrev pub handle_at : ℕ → HandleId
 handle_at n = record { 0 = n }
 
--- the code of an outcome, and how many bytes its body has, as in its message
+-- the code of an outcome, as in its message
 abbrev pub code_of : OutcomeValue → Code
 code_of o = o.code
-
-abbrev pub size_of : OutcomeValue → ℕ
-size_of o = length (joined o.wire o.parts)
 
 -- an addition was refused for another reason than memory: by the multi handle, or as the seat isn't one of its
 abbrev pub is_refusal : {Q W : Type 0} → Result (AddReply Q) W → Bool
@@ -55,7 +51,7 @@ IsFreed h s t = (Stands s t (call.Remove h) reply.Removed ⊎ Stands s t (call.R
 
 -- the next message of a seat is of this handle and this ticket, with this outcome
 abbrev pub ReadsMessage : {Q : Type 0} → HandleId → Ticket → OutcomeValue → SeatView Q OutcomeValue → SeatView Q OutcomeValue → Type 0
-ReadsMessage h ticket o s t = (left : ℕ) × IsNextMessage s t h ticket o left
+ReadsMessage h ticket o s t = (left : ℕ) × IsNextEnd s t h ticket o left
 
 -- it is, and then the handle was removed
 pub record ReadsEnd {Q : Type 0} (h : HandleId) (ticket : Ticket) (o : OutcomeValue) (s t : SeatView Q OutcomeValue) : Type 0 where

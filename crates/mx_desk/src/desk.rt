@@ -1,5 +1,5 @@
 //! The requests that were added at a seat, or at two, and what they ended with.
-ghost use Rattle.std.specs.Prelude.{◌≡◌, ◌⊎◌, ◌^◌, ◌<◌, ◌≤◌, false, All, count_by, length, slice_set, is_some, None, Some, IfErr, IfNone, IfOk, IfSome, MatchOption, OnOk, slice_get, ◌↔◌, IsTrue, OnErr};
+ghost use Rattle.std.specs.Prelude.{◌≡◌, ◌⊎◌, ◌^◌, [], ◌<◌, ◌≤◌, false, All, count_by, length, slice_set, is_some, None, Some, IfErr, IfNone, IfOk, IfSome, MatchOption, OnOk, slice_get, ◌↔◌, IsTrue, OnErr};
 ghost use Rattle.mx_types.specs.declared.call.Call.{Call};
 ghost use Rattle.mx_types.specs.declared.reply.Reply.{Reply};
 ghost use Rattle.mx_request.specs.Request.{request_origin};
@@ -19,6 +19,7 @@ use mx_multi::{Application, Seated};
 use mx_request::Request;
 use mx_request::laws::origin_is_whole_request;
 use mx_run_io::Stop;
+use mx_sink::{Delivery, Held};
 use mx_transfer::Queued;
 use mx_types::{HandleId, OutOfMemory, Ticket};
 use std::alloc::{AllocGlobal, Global};
@@ -28,10 +29,10 @@ use std::sync::Wait;
 
 /// A request that has ended: the number under which it was added, the ticket of its addition, and what its transfer ended with.
 #[derive(Drop)]
-pub struct Ended {
+pub struct Ended<D: Delivery = Held> {
     pub at: usize,
     pub ticket: Ticket,
-    pub outcome: Outcome,
+    pub outcome: Outcome<D>,
 }
 
 // Whether the end of this ticket's addition, which was made at that seat, is awaited under that number.
@@ -95,13 +96,15 @@ fn put(additions: &mut Vec<Option<Addition>>, at: usize, addition: Option<Additi
 
 // Adds a request under a number, under which nothing is added, at the seat that came last, if its multi handle takes one more. It owns no desk,
 // so its exits restore none.
-fn add_at<L: Link, R: Wait + AllocGlobal>(
+fn add_at<L: Link, D: Delivery, R: Wait + AllocGlobal>(
     rt: &R,
-    seats: &mut Seats<'_, '_, L>,
+    seats: &mut Seats<'_, '_, L, D>,
     additions: &[Option<Addition>],
     at: usize,
     request: Request,
+    delivery: D,
 ) -> Result<Option<Addition>, Stop>
+    requires { D.handed delivery ≡ [] }
     ensures free { IfOk result (λ o. IfSome o (λ _. slice_get additions.now at ≡ Some None)) }
     ensures request { IfOk result (λ o. IfSome o (λ a. a.request ≡ request)) }
     ensures told { IfOk result (λ o. IfSome o (λ a. IsTold (ties_at (ties_of seats.new) a.beside) a)) }
@@ -112,16 +115,20 @@ fn add_at<L: Link, R: Wait + AllocGlobal>(
     ensures later { AreLater (ties_of seats.old) (ties_of seats.new) }
 {
     match free_handle(additions, at) {
-        Some(handle) => seats.add(rt, handle, request),
+        Some(handle) => seats.add(rt, handle, request, delivery),
         None => {
             drop(request);
+            drop(delivery);
             Ok(None)
         }
     }
 }
 
 // How many bytes all added transfers have received, as far as that is known.
-fn all_that_came<L: Link>(seats: &mut Seats<'_, '_, L>, additions: &[Option<Addition>]) -> u64
+fn all_that_came<L: Link, D: Delivery>(
+    seats: &mut Seats<'_, '_, L, D>,
+    additions: &[Option<Addition>],
+) -> u64
     ensures ties { ties_of seats.new ≡ ties_of seats.old }
 {
     let mut sum = 0u64;
@@ -136,8 +143,8 @@ fn all_that_came<L: Link>(seats: &mut Seats<'_, '_, L>, additions: &[Option<Addi
 /// An application's seat, perhaps with one at another multi handle beside it, and the requests that were added at them, each under a number
 /// of the caller's own, which is the number of its handle. Contracts see the seats, the addition under each number and its request, how many
 /// may be added at a time, and whether the multi handle of the seat that came last takes no more.
-pub struct Desk<'e, 'm, L: Link> {
-    seats: Seats<'e, 'm, L>,
+pub struct Desk<'e, 'm, L: Link, D: Delivery = Held> {
+    seats: Seats<'e, 'm, L, D>,
     additions: Vec<Option<Addition>>,
     waiting: usize,
     // How many of these were added at the seat beside the first one.
@@ -147,7 +154,7 @@ pub struct Desk<'e, 'm, L: Link> {
 }
 
 // Written out, and not derived: a crate that drops a desk cites its proof.
-impl<'e, 'm, L: Link> Drop for Desk<'e, 'm, L> {
+impl<'e, 'm, L: Link, D: Delivery> Drop for Desk<'e, 'm, L, D> {
     fn drop(self) {
         let Desk {
             seats,
@@ -162,7 +169,7 @@ impl<'e, 'm, L: Link> Drop for Desk<'e, 'm, L> {
     }
 }
 
-impl<'e, 'm, L: Link> Model for Desk<'e, 'm, L> {
+impl<'e, 'm, L: Link, D: Delivery> Model for Desk<'e, 'm, L, D> {
     ghost use Rattle.std.specs.Prelude.{map};
     ghost use Rattle.mx_transfer.specs.Transfers.{TransferState};
     ghost use Rattle.mx_desk.specs.Desks.{DeskValue, IsDesk, asked_at};
@@ -175,17 +182,17 @@ impl<'e, 'm, L: Link> Model for Desk<'e, 'm, L> {
     ghost invariant = { λ d. IsDesk (ties_of d.seats) d.additions.items d.width d.waiting };
 }
 
-impl<'e, 'm, L: Link> Desk<'e, 'm, L> {
+impl<'e, 'm, L: Link, D: Delivery> Desk<'e, 'm, L, D> {
     ghost use Rattle.mx_desk.specs.Calls.{AtSeat, FreesAt, ReadsMessage, Wait};
     ghost use Rattle.mx_desk.specs.Desks.{Adds, AddsNone, Ends, IsBeside, StandsAdded, Stays, TakesEnd, TakesOut};
 
     /// Nothing is added. There are so many numbers, from 0 on, and at most `width` requests are added at a time. An error drops the seat.
     pub fn new(
         alloc: Global,
-        seat: Seated<'e, Application, Queued<L>, Outcome>,
+        seat: Seated<'e, Application, Queued<L, D>, Outcome<D>>,
         count: usize,
         width: usize,
-    ) -> Result<Desk<'e, 'm, L>, OutOfMemory>
+    ) -> Result<Desk<'e, 'm, L, D>, OutOfMemory>
         ensures { IfOk result (IsNewDesk seat.entry count width) }
     {
         match none_added(alloc, count) {
@@ -210,8 +217,8 @@ impl<'e, 'm, L: Link> Desk<'e, 'm, L> {
     /// the desk is dropped, where a request is still added at the seat that is there.
     pub fn with_beside<'n>(
         self,
-        seat: Option<Seated<'n, Application, Queued<L>, Outcome>>,
-    ) -> Option<Desk<'e, 'n, L>>
+        seat: Option<Seated<'n, Application, Queued<L, D>, Outcome<D>>>,
+    ) -> Option<Desk<'e, 'n, L, D>>
         ensures stays { IfSome result (Stays self.entry) }
         ensures beside { IfSome result (IsBeside self.entry seat.entry) }
     {
@@ -286,23 +293,32 @@ impl<'e, 'm, L: Link> Desk<'e, 'm, L> {
     }
 
     // rule save-requests
-    /// Adds a request under a number, under which nothing is added, at the seat that came last. Its ticket comes back; None where the multi
-    /// handle takes no more, since its history has no room, or there is no such number, or something is added under it. Then, and after an
-    /// error, which is `OutOfMemory`, what is added is as it was.
+    /// Adds a request, with its delivery, which has no content yet, under a number, under which nothing is added, at the seat that came last.
+    /// Its ticket comes back; None where the multi handle takes no more, since its history has no room, or there is no such number, or
+    /// something is added under it. Then, and after an error, which is `OutOfMemory`, what is added is as it was, and the delivery is dropped.
     pub fn add<R: Wait + AllocGlobal>(
         &mut self,
         rt: &R,
         at: usize,
         request: Request,
+        delivery: D,
     ) -> Result<Option<Ticket>, Stop>
         requires room { HasRoom self.old }
+        requires none { D.handed delivery ≡ [] }
         ensures added { IfOk result (λ o. MatchOption o (Stays self.old self.new) (λ _. Adds self.old self.new at request)) }
         ensures stands { IfOk result (λ o. MatchOption o (AddsNone self.old self.new at) (λ ticket. StandsAdded self.old self.new at ticket request)) }
         ensures kept { OnErr result (Stays self.old self.new) }
         ensures still { OnErr result ((self.new.added ≡ self.old.added) × (self.new.full ≡ self.old.full)) }
         ensures why { IfErr result (λ e. e ≡ stop.OutOfMemory) }
     {
-        let added = add_at(rt, &mut self.seats, self.additions.as_slice(), at, request);
+        let added = add_at(
+            rt,
+            &mut self.seats,
+            self.additions.as_slice(),
+            at,
+            request,
+            delivery,
+        );
         match added {
             Ok(Some(addition)) => {
                 let ticket = addition.ticket();
@@ -323,7 +339,7 @@ impl<'e, 'm, L: Link> Desk<'e, 'm, L> {
 
     // rule save-requests
     // Takes out an addition whose end came at that seat: nothing is added under its number then.
-    fn take(&mut self, at: usize, told: &Told) -> Result<(), Stop>
+    fn take(&mut self, at: usize, told: &Told<D>) -> Result<(), Stop>
         requires told { Has (ties_at (ties_of self.old.seats) told.now.is_beside) (tie told.now.message.ticket (request_origin told.now.message.outcome.request)) }
         ensures ended { OnOk result (Ends self.old self.new at told.now.message.outcome.request) }
         ensures out { OnOk result (TakesOut self.old self.new at (record { ticket = told.now.message.ticket; beside = told.now.is_beside; request = told.now.message.outcome.request })) }
@@ -348,7 +364,7 @@ impl<'e, 'm, L: Link> Desk<'e, 'm, L> {
     }
 
     // Takes out an addition whose end came at that seat, and removes its handle there.
-    fn close<R: Wait>(&mut self, rt: &R, at: usize, told: &Told) -> Result<(), Stop>
+    fn close<R: Wait>(&mut self, rt: &R, at: usize, told: &Told<D>) -> Result<(), Stop>
         requires told { Has (ties_at (ties_of self.old.seats) told.now.is_beside) (tie told.now.message.ticket (request_origin told.now.message.outcome.request)) }
         ensures ended { OnOk result (Ends self.old self.new at told.now.message.outcome.request) }
         ensures out { OnOk result (TakesOut self.old self.new at (record { ticket = told.now.message.ticket; beside = told.now.is_beside; request = told.now.message.outcome.request })) }
@@ -360,7 +376,7 @@ impl<'e, 'm, L: Link> Desk<'e, 'm, L> {
     }
 
     // The end of a request that was added.
-    fn end<R: Wait>(&mut self, rt: &R, told: Told) -> Result<Ended, Stop>
+    fn end<R: Wait>(&mut self, rt: &R, told: Told<D>) -> Result<Ended<D>, Stop>
         requires told { Has (ties_at (ties_of self.old.seats) told.is_beside) (tie told.message.ticket (request_origin told.message.outcome.request)) }
         ensures ended { IfOk result (λ e. Ends self.old self.new e.at e.outcome.request) }
         ensures out { IfOk result (λ e. TakesOut self.old self.new e.at (record { ticket = e.ticket; beside = told.is_beside; request = e.outcome.request })) }
@@ -392,7 +408,7 @@ impl<'e, 'm, L: Link> Desk<'e, 'm, L> {
         &mut self,
         rt: &R,
         milliseconds: u32,
-    ) -> Result<Option<Ended>, Stop>
+    ) -> Result<Option<Ended<D>>, Stop>
         ensures ended { IfOk result (λ o. MatchOption o (Stays self.old self.new) (λ e. Ends self.old self.new e.at e.outcome.request)) }
         ensures taken { IfOk result (λ o. IfSome o (λ e. TakesEnd self.old self.new e.at e.ticket e.outcome)) }
         ensures none { IfOk result (λ o. IfNone o ((self.new.added ≡ self.old.added) × (self.new.full ≡ self.old.full) × Wait self.old.seats self.new.seats)) }

@@ -1,12 +1,12 @@
 //! The seats of a desk: the first one, and perhaps one of another multi handle beside it.
-ghost use Rattle.std.specs.Prelude.{◌≡◌, false, true, IfErr, IfNone, IfOk, IfSome, MatchOption, None, is_some, Ok, OnOk, Some};
+ghost use Rattle.std.specs.Prelude.{◌≡◌, [], false, true, IfErr, IfNone, IfOk, IfSome, MatchOption, None, is_some, Ok, OnOk, Some};
 ghost use Rattle.mx_types.specs.declared.call.Call.{Call};
 ghost use Rattle.mx_types.specs.declared.reply.Reply.{Reply};
 ghost use mathlib.Core.List.{IsPrefix};
 ghost use Rattle.mx_request.specs.Request.{request_origin};
 ghost use Rattle.mx_lock.specs.Ties.{Has, tie};
 ghost use Rattle.mx_desk.specs.Additions.{IsTold};
-ghost use Rattle.mx_message.specs.Message.{IsNextMessage, Waited};
+ghost use Rattle.mx_message.specs.Message.{Waited};
 ghost use Rattle.mx_multi.specs.Seats.{Stands};
 ghost use Rattle.mx_desk.specs.Calls.{AtLast, AtSeat, FreesAt, IsFreed, IsRefused, ReadsMessage, Wait, is_refusal};
 ghost use Rattle.mx_desk.specs.Ties.{AreLater, ties_at, ties_of, two};
@@ -16,10 +16,11 @@ use crate::addition::Addition;
 use mx_chain::Outcome;
 use mx_journal::{AddReply, RemoveReply};
 use mx_link::Link;
-use mx_message::{Message, NoMessage, next_message_within};
+use mx_message::{Message, NoMessage, next_end_within};
 use mx_multi::{Application, Progress, Seated, WrongSeat};
 use mx_request::Request;
 use mx_run_io::Stop;
+use mx_sink::Delivery;
 use mx_transfer::Queued;
 use mx_types::{HandleId, Ticket};
 use std::alloc::AllocGlobal;
@@ -33,8 +34,8 @@ const SLICE_MS: u32 = 20;
 
 /// A message, and whether the seat beside the first one has read it.
 #[derive(Drop)]
-pub(crate) struct Told {
-    pub message: Message,
+pub(crate) struct Told<D: Delivery> {
+    pub message: Message<D>,
     pub is_beside: bool,
 }
 
@@ -52,14 +53,16 @@ fn added<Q: Drop>(answer: Result<AddReply<Q>, WrongSeat<Q>>) -> Result<Option<Ti
     }
 }
 
-// Adds a transfer of the request under this handle, if the multi handle takes one more.
-fn add_transfer<L: Link, R: Wait + AllocGlobal>(
+// Adds a transfer of the request, with its delivery, under this handle, if the multi handle takes one more.
+fn add_transfer<L: Link, D: Delivery, R: Wait + AllocGlobal>(
     rt: &R,
-    seat: &mut Seated<'_, Application, Queued<L>, Outcome>,
+    seat: &mut Seated<'_, Application, Queued<L, D>, Outcome<D>>,
     is_beside: bool,
     handle: HandleId,
     request: Request,
+    delivery: D,
 ) -> Result<Option<Addition>, Stop>
+    requires { D.handed delivery ≡ [] }
     ensures request { IfOk result (λ o. IfSome o (λ a. a.request ≡ request)) }
     ensures told { IfOk result (λ o. IfSome o (IsTold seat.new.ties)) }
     ensures place { IfOk result (λ o. IfSome o (λ a. a.beside ≡ is_beside)) }
@@ -70,7 +73,7 @@ fn add_transfer<L: Link, R: Wait + AllocGlobal>(
     // proof: what holds of a request
     request.know();
     let asked = Snapshot::of(&request);
-    let Ok(work) = Queued::keeping_heads(rt.alloc(), request) else {
+    let Ok(work) = Queued::delivering(rt.alloc(), request, delivery) else {
         return Err(Stop::OutOfMemory);
     };
     match added(seat.add(rt, handle, work))? {
@@ -80,9 +83,9 @@ fn add_transfer<L: Link, R: Wait + AllocGlobal>(
 }
 
 // Removes a handle. One that can't be removed is added still, so that the next addition under it is refused.
-fn remove_at<L: Link, R: Wait>(
+fn remove_at<L: Link, D: Delivery, R: Wait>(
     rt: &R,
-    seat: &mut Seated<'_, Application, Queued<L>, Outcome>,
+    seat: &mut Seated<'_, Application, Queued<L, D>, Outcome<D>>,
     handle: HandleId,
 ) -> Result<(), Stop>
     ensures freed { OnOk result (IsFreed handle seat.old seat.new) }
@@ -96,7 +99,10 @@ fn remove_at<L: Link, R: Wait>(
 }
 
 // How many bytes the transfer of a handle has received, as far as that is known.
-fn came_at<L: Link>(seat: &mut Seated<'_, Application, Queued<L>, Outcome>, handle: HandleId) -> u64
+fn came_at<L: Link, D: Delivery>(
+    seat: &mut Seated<'_, Application, Queued<L, D>, Outcome<D>>,
+    handle: HandleId,
+) -> u64
     ensures ties { seat.new.ties ≡ seat.old.ties }
 {
     match seat.progress(handle) {
@@ -106,30 +112,30 @@ fn came_at<L: Link>(seat: &mut Seated<'_, Application, Queued<L>, Outcome>, hand
 }
 
 // Reads the next message of a seat, for which it waits as long as that, at most.
-fn read<L: Link, R: Wait + Clock>(
+fn read<L: Link, D: Delivery, R: Wait + Clock>(
     rt: &R,
-    seat: &mut Seated<'_, Application, Queued<L>, Outcome>,
+    seat: &mut Seated<'_, Application, Queued<L, D>, Outcome<D>>,
     is_beside: bool,
     milliseconds: u32,
-) -> Result<Option<Told>, NoMessage>
+) -> Result<Option<Told<D>>, NoMessage>
     ensures later { IsPrefix seat.old.ties seat.new.ties }
     ensures place { IfOk result (λ o. IfSome o (λ t. t.is_beside ≡ is_beside)) }
     ensures told { IfOk result (λ o. IfSome o (λ t. Has seat.new.ties (tie t.message.ticket (request_origin t.message.outcome.request)))) }
     ensures read { IfOk result (λ o. MatchOption o (Waited seat.old seat.new) (λ t. ReadsMessage t.message.handle t.message.ticket t.message.outcome seat.old seat.new)) }
 {
-    match next_message_within(rt, seat, milliseconds)? {
+    match next_end_within(rt, seat, milliseconds)? {
         Some(message) => Ok(Some(Told { message, is_beside })),
         None => Ok(None),
     }
 }
 
 // Reads the next message of two seats: it looks at the first one, and waits at the other for a while.
-fn read_both<L: Link, R: Wait + Clock>(
+fn read_both<L: Link, D: Delivery, R: Wait + Clock>(
     rt: &R,
-    first: &mut Seated<'_, Application, Queued<L>, Outcome>,
-    beside: &mut Seated<'_, Application, Queued<L>, Outcome>,
+    first: &mut Seated<'_, Application, Queued<L, D>, Outcome<D>>,
+    beside: &mut Seated<'_, Application, Queued<L, D>, Outcome<D>>,
     milliseconds: u32,
-) -> Result<Option<Told>, NoMessage>
+) -> Result<Option<Told<D>>, NoMessage>
     ensures first { IsPrefix first.old.ties first.new.ties }
     ensures beside { IsPrefix beside.old.ties beside.new.ties }
     ensures told { IfOk result (λ o. IfSome o (λ t. Has (ties_at (record { first = first.new.ties; beside = beside.new.ties }) t.is_beside)
@@ -144,13 +150,13 @@ fn read_both<L: Link, R: Wait + Clock>(
 }
 
 /// An application's seat, and perhaps one at another multi handle beside it. Contracts see both.
-pub(crate) struct Seats<'e, 'm, L: Link> {
-    first: Seated<'e, Application, Queued<L>, Outcome>,
-    beside: Option<Seated<'m, Application, Queued<L>, Outcome>>,
+pub(crate) struct Seats<'e, 'm, L: Link, D: Delivery> {
+    first: Seated<'e, Application, Queued<L, D>, Outcome<D>>,
+    beside: Option<Seated<'m, Application, Queued<L, D>, Outcome<D>>>,
 }
 
 // Written out, and not derived: a crate that drops a desk cites its proof.
-impl<'e, 'm, L: Link> Drop for Seats<'e, 'm, L> {
+impl<'e, 'm, L: Link, D: Delivery> Drop for Seats<'e, 'm, L, D> {
     fn drop(self) {
         let Seats { first, beside } = self;
         drop(first);
@@ -158,7 +164,7 @@ impl<'e, 'm, L: Link> Drop for Seats<'e, 'm, L> {
     }
 }
 
-impl<'e, 'm, L: Link> Model for Seats<'e, 'm, L> {
+impl<'e, 'm, L: Link, D: Delivery> Model for Seats<'e, 'm, L, D> {
     ghost use Rattle.mx_transfer.specs.Transfers.{TransferState};
     ghost use Rattle.mx_desk.specs.Ties.{SeatsView};
 
@@ -167,9 +173,9 @@ impl<'e, 'm, L: Link> Model for Seats<'e, 'm, L> {
     ghost view = { λ s. record { first = s.first; beside = s.beside } };
 }
 
-impl<'e, 'm, L: Link> Seats<'e, 'm, L> {
+impl<'e, 'm, L: Link, D: Delivery> Seats<'e, 'm, L, D> {
     /// One seat.
-    pub fn new(first: Seated<'e, Application, Queued<L>, Outcome>) -> Seats<'e, 'm, L>
+    pub fn new(first: Seated<'e, Application, Queued<L, D>, Outcome<D>>) -> Seats<'e, 'm, L, D>
         ensures { result ≡ record { first = first.entry; beside = None } }
     {
         Seats {
@@ -181,8 +187,8 @@ impl<'e, 'm, L: Link> Seats<'e, 'm, L> {
     /// The first seat with this one beside it, or with none, in place of the one that is there, which is dropped.
     pub fn with<'n>(
         self,
-        beside: Option<Seated<'n, Application, Queued<L>, Outcome>>,
-    ) -> Seats<'e, 'n, L>
+        beside: Option<Seated<'n, Application, Queued<L, D>, Outcome<D>>>,
+    ) -> Seats<'e, 'n, L, D>
         ensures { result ≡ record { first = self.entry.first; beside = beside.entry } }
     {
         let Seats {
@@ -198,13 +204,15 @@ impl<'e, 'm, L: Link> Seats<'e, 'm, L> {
         self.beside.is_some()
     }
 
-    /// Adds a transfer of the request under this handle at the seat that came last, if its multi handle takes one more.
+    /// Adds a transfer of the request, with its delivery, under this handle at the seat that came last, if its multi handle takes one more.
     pub fn add<R: Wait + AllocGlobal>(
         &mut self,
         rt: &R,
         handle: HandleId,
         request: Request,
+        delivery: D,
     ) -> Result<Option<Addition>, Stop>
+        requires { D.handed delivery ≡ [] }
         ensures request { IfOk result (λ o. IfSome o (λ a. a.request ≡ request)) }
         ensures told { IfOk result (λ o. IfSome o (λ a. IsTold (ties_at (ties_of self.new) a.beside) a)) }
         ensures place { IfOk result (λ o. IfSome o (λ a. a.beside ≡ is_some self.old.beside)) }
@@ -213,8 +221,8 @@ impl<'e, 'm, L: Link> Seats<'e, 'm, L> {
         ensures later { AreLater (ties_of self.old) (ties_of self.new) }
     {
         match &mut self.beside {
-            Some(seat) => add_transfer(rt, seat, true, handle, request),
-            None => add_transfer(rt, &mut self.first, false, handle, request),
+            Some(seat) => add_transfer(rt, seat, true, handle, request, delivery),
+            None => add_transfer(rt, &mut self.first, false, handle, request, delivery),
         }
     }
 
@@ -226,7 +234,7 @@ impl<'e, 'm, L: Link> Seats<'e, 'm, L> {
         first_waits: bool,
         beside_waits: bool,
         milliseconds: u32,
-    ) -> Result<Option<Told>, NoMessage>
+    ) -> Result<Option<Told<D>>, NoMessage>
         ensures told { IfOk result (λ o. IfSome o (λ t. Has (ties_at (ties_of self.new) t.is_beside) (tie t.message.ticket (request_origin t.message.outcome.request)))) }
         ensures read { IfOk result (λ o. MatchOption o (Wait self.old self.new) (λ t. AtSeat (ReadsMessage t.message.handle t.message.ticket t.message.outcome) t.is_beside self.old self.new)) }
         ensures later { AreLater (ties_of self.old) (ties_of self.new) }

@@ -9,12 +9,13 @@ use mx_crew::Crew;
 use mx_desk::Desk;
 use mx_link::Link;
 use mx_run_io::Stop;
+use mx_sink::Delivery;
 use std::alloc::AllocGlobal;
 use std::rt::Clock;
 use std::sync::Wait;
 
-/// What fetches at one desk after another, with the workers of a crew.
-pub trait Fetch {
+/// What fetches at one desk after another, with the workers of a crew. Its requests are added with deliveries of this kind.
+pub trait Fetch<D: Delivery> {
     /// What is added at a desk is what it has asked for there.
     ghost is_asked: { Self → List (Option RequestValue) → Type 0 };
 
@@ -33,7 +34,7 @@ pub trait Fetch {
         &mut self,
         rt: &R,
         crew: &Crew,
-        desk: &mut Desk<'_, '_, L>,
+        desk: &mut Desk<'_, '_, L, D>,
         patience: Option<u32>,
     ) -> Result<Turned, Stop>
         requires asked { is_asked self.old desk.old.asked }

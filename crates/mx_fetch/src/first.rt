@@ -1,5 +1,6 @@
 //! The multi handles of a run, one after another.
 ghost use Rattle.std.specs.Prelude.{◌≡◌, ◌≢◌, true, List, Option, Err, IfOk, Ok, OnOk, min, vec_len};
+ghost use Rattle.mx_desk.specs.Desks.{IsNewDesk};
 ghost use Rattle.mx_multi.specs.Opening.{are_within};
 ghost use Rattle.mx_request.specs.Request.{RequestValue};
 ghost use Rattle.mx_fetch.specs.Handles.{IsBack};
@@ -17,8 +18,10 @@ use mx_gate::Gate;
 use mx_link::Link;
 use mx_multi::{Application, Limits, Seated};
 use mx_run_io::Stop;
+use mx_sink::Delivery;
 use mx_transfer::Queued;
-use std::alloc::AllocGlobal;
+use mx_types::OutOfMemory;
+use std::alloc::{AllocGlobal, Global};
 use std::random::RandomSource;
 use std::rt::Clock;
 use std::sync::Wait;
@@ -47,7 +50,7 @@ pub(crate) struct First<E, G> {
 }
 
 // The run, which stops so.
-fn refused<E: Fetch + Drop, G>(first: First<E, G>, stop: Stop) -> First<E, G>
+fn refused<D: Delivery, E: Fetch<D> + Drop, G>(first: First<E, G>, stop: Stop) -> First<E, G>
     ensures room { result.room ≡ first.room }
     ensures run { E.is_same first.errand.value result.errand.value }
     ensures turned { result.turned ≡ Err stop }
@@ -58,10 +61,10 @@ fn refused<E: Fetch + Drop, G>(first: First<E, G>, stop: Stop) -> First<E, G>
 }
 
 // How the run turned once it came back from second multi handles: where there was none it waits at its desk until all has ended there.
-fn after_seconds<'m, L: Link, R: Wait + AllocGlobal + Clock, E: Fetch + Drop>(
+fn after_seconds<'m, L: Link, D: Delivery, R: Wait + AllocGlobal + Clock, E: Fetch<D> + Drop>(
     rt: &R,
     crew: &Crew,
-    second: Second<'m, L, E>,
+    second: Second<'m, L, D, E>,
 ) -> (Box<E>, Result<Turned, Stop>)
     requires { IsBack (E.is_asked second.errand.value) (E.has_turned second.errand.value) second.desk second.turned }
     ensures run { E.is_same second.entry.errand.value result.0.value }
@@ -89,10 +92,11 @@ fn after_seconds<'m, L: Link, R: Wait + AllocGlobal + Clock, E: Fetch + Drop>(
 fn fetch_first<
     'm,
     L: Link + Send,
+    D: Delivery + Send,
     R: Threads + Wait + Clock + RandomSource + AllocGlobal + Sync,
     G: Gate<Link = L> + Send + Drop,
-    E: Fetch + Drop,
->(rt: &R, crew: &Crew, desk: Desk<'m, 'm, L>, first: First<E, G>) -> First<E, G>
+    E: Fetch<D> + Drop,
+>(rt: &R, crew: &Crew, desk: Desk<'m, 'm, L, D>, first: First<E, G>) -> First<E, G>
     requires within { are_within first.room.limits ≡ true }
     requires one { first.room.limits.seats ≡ 1 }
     requires width { desk.width ≡ first.room.width }
@@ -133,17 +137,29 @@ fn fetch_first<
     }
 }
 
+// A desk of this seat, at which nothing is added yet.
+fn desk_of<'m, L: Link, D: Delivery>(
+    alloc: Global,
+    seat: Seated<'m, Application, Queued<L, D>, Outcome<D>>,
+    room: Room,
+) -> Result<Desk<'m, 'm, L, D>, OutOfMemory>
+    ensures { IfOk result (IsNewDesk seat.entry room.numbers room.width) }
+{
+    Desk::new(alloc, seat, room.numbers, room.width)
+}
+
 // Fetches at a desk of this seat, at which nothing is added yet.
 fn fetch_seated<
     'm,
     L: Link + Send,
+    D: Delivery + Send,
     R: Threads + Wait + Clock + RandomSource + AllocGlobal + Sync,
     G: Gate<Link = L> + Send + Drop,
-    E: Fetch + Drop,
+    E: Fetch<D> + Drop,
 >(
     rt: &R,
     crew: &Crew,
-    seat: Seated<'m, Application, Queued<L>, Outcome>,
+    seat: Seated<'m, Application, Queued<L, D>, Outcome<D>>,
     first: First<E, G>,
 ) -> First<E, G>
     requires within { are_within first.room.limits ≡ true }
@@ -153,18 +169,19 @@ fn fetch_seated<
     ensures run { E.is_same first.errand.value result.errand.value }
     ensures turned { IfOk result.turned (E.has_turned result.errand.value) }
 {
-    match Desk::new(rt.alloc(), seat, first.room.numbers, first.room.width) {
+    match desk_of(rt.alloc(), seat, first.room) {
         Ok(desk) => fetch_first(rt, crew, desk, first),
-        Err(_) => refused(first, Stop::OutOfMemory),
+        Err(_) => refused::<D, E, G>(first, Stop::OutOfMemory),
     }
 }
 
 // Fetches at a new multi handle, with a worker at each gate, and closes it. The gates come back.
 fn fetch_once<
     L: Link + Send,
+    D: Delivery + Send,
     R: Threads + Wait + Clock + RandomSource + AllocGlobal + Sync,
     G: Gate<Link = L> + Send + Drop,
-    E: Fetch + Drop,
+    E: Fetch<D> + Drop,
 >(rt: &R, crew: &Crew, gates: Vec<G>, first: First<E, G>) -> (First<E, G>, Result<Vec<G>, Stop>)
     requires within { are_within first.room.limits ≡ true }
     requires one { first.room.limits.seats ≡ 1 }
@@ -174,7 +191,7 @@ fn fetch_once<
     ensures turned { IfOk result.0.turned (E.has_turned result.0.errand.value) }
     ensures gates { IfOk result.1 (λ back. vec_len back ≡ min first.room.limits.workers (vec_len gates)) }
 {
-    match open_one(rt, first.room.limits) {
+    match open_one::<L, D, R>(rt, first.room.limits) {
         Ok(opened) => {
             let Opened {
                 multi,
@@ -201,7 +218,7 @@ fn fetch_once<
                         Ok(()) => fetch_seated(rt, crew, seat, first),
                         Err(stop) => {
                             drop(seat);
-                            refused(first, stop)
+                            refused::<D, E, G>(first, stop)
                         }
                     }
                 },
@@ -211,7 +228,10 @@ fn fetch_once<
         }
         Err(_) => {
             drop(gates);
-            (refused(first, Stop::OutOfMemory), Err(Stop::OutOfMemory))
+            (
+                refused::<D, E, G>(first, Stop::OutOfMemory),
+                Err(Stop::OutOfMemory),
+            )
         }
     }
 }
@@ -223,9 +243,10 @@ fn fetch_once<
 /// on with another second one, or, where all has ended that was added at the first, with the next. It may wait.
 pub(crate) fn run_on<
     L: Link + Send,
+    D: Delivery + Send,
     R: Threads + Wait + Clock + RandomSource + AllocGlobal + Sync,
     G: Gate<Link = L> + Send + Drop,
-    E: Fetch + Drop,
+    E: Fetch<D> + Drop,
 >(rt: &R, crew: &Crew, gates: Vec<G>, first: First<E, G>) -> First<E, G>
     requires within { are_within first.room.limits ≡ true }
     requires one { first.room.limits.seats ≡ 1 }
@@ -238,7 +259,7 @@ pub(crate) fn run_on<
     let (mut gates, mut first) = (gates, first);
     for _ in rt.forever() {
         crew.resume();
-        let (back, free) = fetch_once(rt, crew, gates, first);
+        let (back, free) = fetch_once::<L, D, R, G, E>(rt, crew, gates, first);
         first = back;
         if !matches!(first.turned, Ok(Turned::HistoryFull)) {
             return first;

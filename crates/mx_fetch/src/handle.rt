@@ -8,6 +8,7 @@ use mx_gate::Gate;
 use mx_link::Link;
 use mx_multi::{Limits, Multi, WorkerSeat};
 use mx_run_io::Stop;
+use mx_sink::Delivery;
 use mx_transfer::Queued;
 use mx_types::OutOfMemory;
 use std::alloc::{AllocGlobal, Global};
@@ -16,9 +17,9 @@ use std::sync::Wait;
 use std::thread::Threads;
 
 // The gates of workers that have ended.
-fn gates_of<L: Link, G: Drop>(
+fn gates_of<L: Link, G: Drop, D: Delivery>(
     alloc: Global,
-    worked: Vec<Worked<L, G>>,
+    worked: Vec<Worked<L, G, D>>,
 ) -> Result<Vec<G>, OutOfMemory>
     ensures { IfOk result (λ gates. vec_len gates ≡ vec_len worked) }
 {
@@ -31,9 +32,9 @@ fn gates_of<L: Link, G: Drop>(
 }
 
 // The gates of a crew, if there was one.
-fn free<L: Link, G: Drop>(
+fn free<L: Link, G: Drop, D: Delivery>(
     alloc: Global,
-    worked: Result<Vec<Worked<L, G>>, Stop>,
+    worked: Result<Vec<Worked<L, G, D>>, Stop>,
 ) -> Result<Vec<G>, Stop>
     ensures { IfOk result (λ gates. IsOkAnd worked (λ w. vec_len gates ≡ vec_len w)) }
 {
@@ -48,6 +49,7 @@ fn free<L: Link, G: Drop>(
 pub(crate) fn beside_gates<
     'm,
     L: Link + Send,
+    D: Delivery + Send,
     R: Threads + Wait + RandomSource + AllocGlobal + Sync,
     G: Gate<Link = L> + Send + Drop,
     T: Drop,
@@ -55,8 +57,8 @@ pub(crate) fn beside_gates<
 >(
     rt: &'m R,
     crew: &'m Crew,
-    multi: &'m Multi<Queued<L>, Outcome>,
-    workers: Vec<WorkerSeat<Queued<L>, Outcome>>,
+    multi: &'m Multi<Queued<L, D>, Outcome<D>>,
+    workers: Vec<WorkerSeat<Queued<L, D>, Outcome<D>>>,
     gates: Vec<G>,
     limits: Limits,
     application: A,

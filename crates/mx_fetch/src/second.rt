@@ -15,6 +15,7 @@ use mx_gate::Gate;
 use mx_link::Link;
 use mx_multi::{Application, Limits, Seated};
 use mx_run_io::Stop;
+use mx_sink::Delivery;
 use mx_transfer::Queued;
 use std::alloc::AllocGlobal;
 use std::mem;
@@ -26,15 +27,15 @@ use std::thread::Threads;
 /// What a run has with it at a second multi handle: its desk, whose first seat is at the first one, and how it came back from there, where
 /// it was there. The desk isn't left where the run stopped with something added at the second one.
 #[derive(Drop)]
-pub(crate) struct Second<'e, L: Link, E> {
-    pub desk: Option<Desk<'e, 'e, L>>,
+pub(crate) struct Second<'e, L: Link, D: Delivery, E> {
+    pub desk: Option<Desk<'e, 'e, L, D>>,
     pub errand: Box<E>,
     pub turned: Option<Result<Turned, Stop>>,
 }
 
 /// What fetches at a seat that it is given. It is a type parameter to what runs a crew beside it, so that the closure there captures and
 /// gives back no lifetime: the prover doesn't come to the end of such a closure's contract.
-trait FetchAt<L: Link> {
+trait FetchAt<L: Link, D: Delivery> {
     /// It may be given a seat.
     ghost is_ready: { Self → Type 0 };
 
@@ -49,20 +50,20 @@ trait FetchAt<L: Link> {
         &mut self,
         rt: &R,
         crew: &Crew,
-        seat: &mut Option<Seated<'_, Application, Queued<L>, Outcome>>,
+        seat: &mut Option<Seated<'_, Application, Queued<L, D>, Outcome<D>>>,
     )
         requires { is_ready self.old }
         ensures { is_back self.old self.new };
 }
 
 // Fetches at a desk with this seat beside its first one. The desk comes back, unless something is added at that seat still.
-fn fetch_two<'e, 'm, L: Link, R: Wait + AllocGlobal + Clock, E: Fetch + Drop>(
+fn fetch_two<'e, 'm, L: Link, D: Delivery, R: Wait + AllocGlobal + Clock, E: Fetch<D> + Drop>(
     rt: &R,
     crew: &Crew,
-    desk: Desk<'e, 'e, L>,
-    seat: Seated<'m, Application, Queued<L>, Outcome>,
+    desk: Desk<'e, 'e, L, D>,
+    seat: Seated<'m, Application, Queued<L, D>, Outcome<D>>,
     errand: &mut E,
-) -> (Option<Desk<'e, 'e, L>>, Result<Turned, Stop>)
+) -> (Option<Desk<'e, 'e, L, D>>, Result<Turned, Stop>)
     requires { E.is_asked errand.old desk.asked }
     ensures run { E.is_same errand.old errand.new }
     ensures back { IsBack (E.is_asked errand.new) (E.has_turned errand.new) result.0 (Some result.1) }
@@ -72,11 +73,11 @@ fn fetch_two<'e, 'm, L: Link, R: Wait + AllocGlobal + Clock, E: Fetch + Drop>(
     };
     let turned = errand.fetch(rt, crew, &mut two, None);
     // None of the desk's own lifetime: the prover covers no argument at another one than the callee's.
-    let none: Option<Seated<'e, Application, Queued<L>, Outcome>> = None;
+    let none: Option<Seated<'e, Application, Queued<L, D>, Outcome<D>>> = None;
     (two.with_beside(none), turned)
 }
 
-impl<'e, L: Link, E: Fetch + Drop> FetchAt<L> for Second<'e, L, E> {
+impl<'e, L: Link, D: Delivery, E: Fetch<D> + Drop> FetchAt<L, D> for Second<'e, L, D, E> {
     // It has not been there, and is the same run as itself: so it is back where it couldn't be there.
     ghost is_ready = { λ s. (s.turned ≡ None) × (E.is_same s.errand.value s.errand.value × IfSome s.desk (λ d. E.is_asked s.errand.value d.asked)) };
 
@@ -89,7 +90,7 @@ impl<'e, L: Link, E: Fetch + Drop> FetchAt<L> for Second<'e, L, E> {
         &mut self,
         rt: &R,
         crew: &Crew,
-        seat: &mut Option<Seated<'_, Application, Queued<L>, Outcome>>,
+        seat: &mut Option<Seated<'_, Application, Queued<L, D>, Outcome<D>>>,
     ) {
         let Some(seat) = seat.take() else {
             return;
@@ -106,16 +107,17 @@ impl<'e, L: Link, E: Fetch + Drop> FetchAt<L> for Second<'e, L, E> {
 // Fetches at a new multi handle, with a worker at each gate, and closes it. The gates come back.
 fn fetch_opened<
     L: Link + Send,
+    D: Delivery + Send,
     R: Threads + Wait + Clock + RandomSource + AllocGlobal + Sync,
     G: Gate<Link = L> + Send + Drop,
-    F: FetchAt<L> + Drop,
+    F: FetchAt<L, D> + Drop,
 >(rt: &R, crew: &Crew, gates: Vec<G>, limits: Limits, fetcher: F) -> (F, Result<Vec<G>, Stop>)
     requires within { are_within limits ≡ true }
     requires one { limits.seats ≡ 1 }
     requires ready { F.is_ready fetcher }
     ensures { F.is_back fetcher result.0 }
 {
-    match open_one(rt, limits) {
+    match open_one::<L, D, R>(rt, limits) {
         Ok(opened) => {
             let Opened {
                 multi,
@@ -163,9 +165,10 @@ fn fetch_opened<
 // Fetches at a new multi handle, with a worker at each of the gates, which come back with their crew.
 fn fetch_once<
     L: Link + Send,
+    D: Delivery + Send,
     R: Threads + Wait + Clock + RandomSource + AllocGlobal + Sync,
     G: Gate<Link = L> + Send + Drop,
-    F: FetchAt<L> + Drop,
+    F: FetchAt<L, D> + Drop,
 >(rt: &R, spare: Spare<G>, limits: Limits, fetcher: F) -> (F, Option<Spare<G>>)
     requires within { are_within limits ≡ true }
     requires one { limits.seats ≡ 1 }
@@ -174,7 +177,7 @@ fn fetch_once<
 {
     let Spare { crew, gates } = spare;
     crew.resume();
-    let (fetcher, free) = fetch_opened(rt, &crew, gates, limits, fetcher);
+    let (fetcher, free) = fetch_opened::<L, D, R, G, F>(rt, &crew, gates, limits, fetcher);
     match free {
         Ok(gates) => (fetcher, Some(Spare { crew, gates })),
         Err(_) => {
@@ -188,15 +191,16 @@ fn fetch_once<
 pub(crate) fn fetch_seconds<
     'e,
     L: Link + Send,
+    D: Delivery + Send,
     R: Threads + Wait + Clock + RandomSource + AllocGlobal + Sync,
     G: Gate<Link = L> + Send + Drop,
-    E: Fetch + Drop,
+    E: Fetch<D> + Drop,
 >(
     rt: &R,
     spare: Option<Spare<G>>,
     limits: Limits,
-    second: Second<'e, L, E>,
-) -> (Second<'e, L, E>, Option<Spare<G>>)
+    second: Second<'e, L, D, E>,
+) -> (Second<'e, L, D, E>, Option<Spare<G>>)
     requires within { are_within limits ≡ true }
     requires one { limits.seats ≡ 1 }
     requires asked { IfSome second.desk (λ d. E.is_asked second.errand.value d.asked) }
@@ -209,7 +213,7 @@ pub(crate) fn fetch_seconds<
         let Some(gates) = spare else {
             return (second, None);
         };
-        (second, spare) = fetch_once(rt, gates, limits, second);
+        (second, spare) = fetch_once::<L, D, R, G, Second<'e, L, D, E>>(rt, gates, limits, second);
         if !matches!(second.turned, Some(Ok(Turned::Held))) {
             return (second, spare);
         }

@@ -14,6 +14,7 @@ use mx_gate::Gate;
 use mx_link::Link;
 use mx_named_gate::PacedGate;
 use mx_run_io::Stop;
+use mx_sink::Delivery;
 use std::alloc::AllocGlobal;
 use std::net::{Net, TcpListener, TcpStream};
 use std::time::Instant;
@@ -59,7 +60,13 @@ fn unbegun<E: Drop>(errand: Box<E>, stop: Stop) -> FetchEnd<E>
 }
 
 // Fetches at these gates, and at the spare ones where it needs them. It knows nothing of sockets: what its exits drop is of any link.
-fn fetch_at_gates<L: Link + Send, R: Runtime, G: Gate<Link = L> + Send + Drop, E: Fetch + Drop>(
+fn fetch_at_gates<
+    L: Link + Send,
+    D: Delivery + Send,
+    R: Runtime,
+    G: Gate<Link = L> + Send + Drop,
+    E: Fetch<D> + Drop,
+>(
     rt: &R,
     crew: &Crew,
     gates: Vec<G>,
@@ -85,7 +92,7 @@ fn fetch_at_gates<L: Link + Send, R: Runtime, G: Gate<Link = L> + Send + Drop, E
         spare,
         room: _,
         turned,
-    } = run_on(rt, crew, gates, first);
+    } = run_on::<L, D, R, G, E>(rt, crew, gates, first);
     let met_file_limit = crew.met_file_limit() || spare_met_file_limit(&spare);
     drop(spare);
     FetchEnd {
@@ -97,7 +104,7 @@ fn fetch_at_gates<L: Link + Send, R: Runtime, G: Gate<Link = L> + Send + Drop, E
 
 // The same, at gates that open a few links at a time. What calls it with gates over sockets knows nothing of how they do so: it takes the
 // prover half as much to compare the methods of such gates where those of `PacedGate` aren't around them.
-fn fetch_at_paced<R: Runtime, N: Gate + Send + Drop, E: Fetch + Drop>(
+fn fetch_at_paced<D: Delivery + Send, R: Runtime, N: Gate + Send + Drop, E: Fetch<D> + Drop>(
     rt: &R,
     crew: &Crew,
     gates: Vec<PacedGate<N>>,
@@ -114,11 +121,15 @@ where
     ensures run { E.is_same errand.value result.errand.value }
     ensures ended { OnOk result.stopped (E.has_turned result.errand.value how.AllEnded) }
 {
-    fetch_at_gates(rt, crew, gates, spare, room, errand)
+    fetch_at_gates::<N::Link, D, R, PacedGate<N>, E>(rt, crew, gates, spare, room, errand)
 }
 
 // Fetches with workers over sockets that this crew wakes and stops. It owns no crew, so its exits drop none.
-fn fetch_by<R: Runtime + Net<Listener = TcpListener, Stream = TcpStream>, E: Fetch + Drop>(
+fn fetch_by<
+    D: Delivery + Send,
+    R: Runtime + Net<Listener = TcpListener, Stream = TcpStream>,
+    E: Fetch<D> + Drop,
+>(
     rt: &R,
     crew: &mut Crew,
     errand: Box<E>,
@@ -135,7 +146,7 @@ fn fetch_by<R: Runtime + Net<Listener = TcpListener, Stream = TcpStream>, E: Fet
     match crew.gates(rt, start, room.limits.workers) {
         Ok(gates) => {
             let spare = made(rt, start, room, may_fill);
-            fetch_at_paced(rt, crew, gates, spare, room, errand)
+            fetch_at_paced::<D, R, _, E>(rt, crew, gates, spare, room, errand)
         }
         Err(stop) => unbegun(errand, stop),
     }
@@ -149,8 +160,9 @@ fn fetch_by<R: Runtime + Net<Listener = TcpListener, Stream = TcpStream>, E: Fet
 /// It stops where memory is refused, and where the system has no poll or no thread for it; no clause says that the cause is the right one, nor
 /// that `met_file_limit` is.
 pub fn fetch_over_sockets<
+    D: Delivery + Send,
     R: Runtime + Net<Listener = TcpListener, Stream = TcpStream>,
-    E: Fetch + Drop,
+    E: Fetch<D> + Drop,
 >(rt: &R, errand: Box<E>, start: Instant, room: Room, may_fill: bool) -> FetchEnd<E>
     requires within { are_within room.limits ≡ true }
     requires one { room.limits.seats ≡ 1 }
@@ -160,7 +172,7 @@ pub fn fetch_over_sockets<
 {
     match Crew::new(rt.alloc()) {
         Ok(mut crew) => {
-            let end = fetch_by(rt, &mut crew, errand, start, room, may_fill);
+            let end = fetch_by::<D, R, E>(rt, &mut crew, errand, start, room, may_fill);
             drop(crew);
             end
         }

@@ -14,10 +14,10 @@ use Rattle.mx_types.specs.declared.reply.Reply.TheVariants as reply
 use Rattle.mx_request.specs.Request.{request_origin}
 use Rattle.mx_body.specs.Parts.{joined}
 use Rattle.mx_link.specs.Answers.{given}
-use Rattle.mx_exchange.specs.Hops.{HasContent}
-use Rattle.mx_chain.specs.Outcomes.{OutcomeValue, IsOutcome}
+use Rattle.mx_exchange.specs.Hops.{HasBody, HasContent}
+use Rattle.mx_chain.specs.Outcomes.{OutcomeValue, IsEnd, IsOutcome, size_of}
 use Rattle.mx_chain.specs.Hops.{is_ok}
-use Rattle.mx_chain.proofs.HopLemmas.{ok_stays}
+use Rattle.mx_chain.proofs.HopLemmas.{end_held, held_size, ok_stays, settled_ok}
 use Rattle.mx_journal.specs.History.{is_legal}
 use Rattle.mx_journal.specs.Replies.{reply_of_info}
 use Rattle.mx_journal.specs.declared.replies.InfoReply.{InfoReply}
@@ -31,21 +31,34 @@ use Rattle.mx_multi.proofs.Runs.{later_none, later_more}
 use Rattle.mx_multi.proofs.Standing.{told_alike}
 use Rattle.mx_message.specs.declared.next.Message.{Message}
 use Rattle.mx_message.specs.declared.next.NoMessage.{NoMessage}
-use Rattle.mx_message.specs.Message.{CarriesBody, IsNextMessage, IsOrderly, IsRead, IsWait, Unread, Waited}
+use Rattle.mx_message.specs.Message.{CarriesBody, DeliversBody, IsNextEnd, IsNextMessage, IsOrderly, IsRead, IsWait, Unread, Waited}
 
--- with code OK the wire is all that the last hop's link gave
-pub carries : (o : OutcomeValue) (wire : List ℕ) → IsOutcome o → (o.last.code ≢ code.OutOfMemory → wire ≡ given o.last.answers)
-    → wire ≡ o.wire → HasContent o.last → o.code ≡ code.Ok → CarriesBody o
-carries o wire outcome all is content ok =
-    let last = ok_stays _ _ o.last o.code outcome.ends ok in
-    let parts : o.parts ≡ (if is_ok o.code then o.last.parts else []) = ap (λ x. x.parts) outcome.value in
-    let as_ok : (if is_ok o.code then o.last.parts else []) ≡ o.last.parts = ap (λ c. if is_ok c then o.last.parts else []) ok in
-    let bytes : o.wire ≡ o.last.wire = ap (λ x. x.wire) outcome.value in
+-- with code OK the wire is all that the last hop's link gave, and where the response is held the outcome carries the body
+pub delivers : (o : OutcomeValue) → IsEnd o → (o.last.code ≢ code.OutOfMemory → o.wire ≡ given o.last.answers)
+    → HasBody o.last → o.content ≡ o.last.content → (o.last.limit ≡ None → HasContent o.last) → o.code ≡ code.Ok → DeliversBody o
+delivers o is all body handed content ok =
+    let f = is.ends.failure in
+    let chain : (is.end.code ≡ code.Ok) × (f ≡ None) = settled_ok f is.end.code is.ends.sinks (sym (ap (λ (x : OutcomeValue). x.code) is.ends.is) ∙ ok) in
+    let ended : is.end.last.code ≡ code.Ok = ok_stays _ _ is.end.last is.end.code is.chain.ends chain.0 in
+    let last : o.last.code ≡ code.Ok = ap (λ (x : OutcomeValue). x.last.code) is.ends.is ∙ ended in
+    let within : given o.last.answers ≡ o.wire = sym (all (λ e. let bad : code.Ok ≡ code.OutOfMemory = sym last ∙ e in cc)) in
     record {
-      within = sym (all (λ e. let bad : code.Ok ≡ code.OutOfMemory = sym last ∙ e in cc)) ∙ is;
-      content = content;
-      same = ap (λ x. joined x o.parts) bytes ∙ ap (joined o.last.wire) (parts ∙ as_ok);
+      within = within;
+      body = body;
+      handed = handed;
+      held = λ held. carries o (end_held o is held) within (content held) ok;
     }
+  where
+    carries : (o : OutcomeValue) → IsOutcome o → given o.last.answers ≡ o.wire → HasContent o.last → o.code ≡ code.Ok → CarriesBody o
+    carries o outcome within content ok =
+        let parts : o.parts ≡ (if is_ok o.code then o.last.parts else []) = ap (λ x. x.parts) outcome.value in
+        let as_ok : (if is_ok o.code then o.last.parts else []) ≡ o.last.parts = ap (λ c. if is_ok c then o.last.parts else []) ok in
+        let bytes : o.wire ≡ o.last.wire = ap (λ x. x.wire) outcome.value in
+        record {
+          within = within;
+          content = content;
+          same = ap (λ x. joined x o.parts) bytes ∙ ap (joined o.last.wire) (parts ∙ as_ok);
+        }
 
 later_on : {Q O : Type 0} (s t u : SeatView Q O) (a b : List Receipt) → Later s t a → Later t u b → Later s u (a ++ b)
 later_on s t u a b h k = record {
@@ -77,10 +90,10 @@ module _ {Q : Type 0} where
 
   -- a reading that found none
   pub found_none : (s t : SeatView Q OutcomeValue) (r : InfoReply OutcomeValue) → r ≡ info.Empty
-      → Stands s t call.InfoRead (reply_of_info (λ x. x.code) (λ x. length (joined x.wire x.parts)) r) → Waited s t
+      → Stands s t call.InfoRead (reply_of_info (λ x. x.code) size_of r) → Waited s t
   found_none s t r is h =
       waited_more s s t call.InfoRead reply.Empty (λ cut. inl (refl, refl)) (waited_none s)
-      (subst (λ x. Stands s t call.InfoRead (reply_of_info (λ x. x.code) (λ x. length (joined x.wire x.parts)) x)) is h)
+      (subst (λ x. Stands s t call.InfoRead (reply_of_info (λ x. x.code) size_of x)) is h)
 
   -- and a poll after it
   pub polled : (s t u : SeatView Q OutcomeValue) → Waited s t → Stands t u call.Poll reply.Woken → Waited s u
@@ -96,11 +109,11 @@ module _ {Q : Type 0} where
   unread_same s t e = record { at = s; waited = waited_none s; last = inl e }
 
   pub unread_lacks : (s t : SeatView Q OutcomeValue) (r : InfoReply OutcomeValue) → r ≡ info.OutOfMemory
-      → Stands s t call.InfoRead (reply_of_info (λ x. x.code) (λ x. length (joined x.wire x.parts)) r) → Unread s t
+      → Stands s t call.InfoRead (reply_of_info (λ x. x.code) size_of r) → Unread s t
   unread_lacks s t r is h = record {
     at = s;
     waited = waited_none s;
-    last = inr (subst (λ x. Stands s t call.InfoRead (reply_of_info (λ x. x.code) (λ x. length (joined x.wire x.parts)) x)) is h);
+    last = inr (subst (λ x. Stands s t call.InfoRead (reply_of_info (λ x. x.code) size_of x)) is h);
   }
 
   pub unread_polled : (s t u : SeatView Q OutcomeValue) → Waited s t → u ≡ t → Unread s u
@@ -112,10 +125,10 @@ module _ {Q : Type 0} where
 
   -- what was read
   pub read_is : (s t : SeatView Q OutcomeValue) (r : InfoReply OutcomeValue) (h : HandleId) (ticket : Ticket) (o : OutcomeValue) (left : ℕ) → r ≡ info.Message h ticket o left
-      → Stands s t call.InfoRead (reply_of_info (λ x. x.code) (λ x. length (joined x.wire x.parts)) r) → Tells (tie_read (λ x. request_origin x.request) r) t.ties → IsOutcome o → (o.code ≡ code.Ok → CarriesBody o) → IsRead s t h ticket o left
-  read_is s t r h ticket o left is stands tells outcome body = record {
-    stands = subst (λ x. Stands s t call.InfoRead (reply_of_info (λ x. x.code) (λ x. length (joined x.wire x.parts)) x)) is stands;
-    outcome = outcome;
+      → Stands s t call.InfoRead (reply_of_info (λ x. x.code) size_of r) → Tells (tie_read (λ x. request_origin x.request) r) t.ties → IsEnd o → (o.code ≡ code.Ok → DeliversBody o) → IsRead s t h ticket o left
+  read_is s t r h ticket o left is stands tells end body = record {
+    stands = subst (λ x. Stands s t call.InfoRead (reply_of_info (λ x. x.code) size_of x)) is stands;
+    end = end;
     body = body;
     of_addition = subst (λ x. Tells (tie_read (λ x. request_origin x.request) x) t.ties) is tells;
   }
@@ -137,22 +150,35 @@ pub if_refused : {A E : Type 0} {P : Type 0} (r : Result A E) → P → IfErr r 
 if_refused (Ok a) p = tt
 if_refused (Err e) p = p
 
-pub next : {Q : Type 0} (s at t : SeatView Q OutcomeValue) (h : HandleId) (ticket : Ticket) (o : OutcomeValue) (left : ℕ) → Waited s at → IsRead at t h ticket o left → IsNextMessage s t h ticket o left
+pub next : {Q : Type 0} (s at t : SeatView Q OutcomeValue) (h : HandleId) (ticket : Ticket) (o : OutcomeValue) (left : ℕ) → Waited s at → IsRead at t h ticket o left → IsNextEnd s t h ticket o left
 next s at t h ticket o left w r = record {
   at = at;
   waited = w;
   stands = r.stands;
   orderly = orderly t.seen ticket r.stands.legal;
-  outcome = r.outcome;
+  end = r.end;
   body = r.body;
   of_addition = r.of_addition;
   as_told = λ origin told. sym (told_alike s.ties t.ties (inl (prefix_trans s.ties at.ties t.ties w.later.ties r.stands.ties)) ticket origin (request_origin o.request) told r.of_addition);
 }
 
+-- where its response is held
+pub held_next : {Q : Type 0} (s t : SeatView Q OutcomeValue) (h : HandleId) (ticket : Ticket) (o : OutcomeValue) (left : ℕ) → IsOutcome o → IsNextEnd s t h ticket o left → IsNextMessage s t h ticket o left
+held_next s t h ticket o left outcome r = record {
+  at = r.at;
+  waited = r.waited;
+  stands = subst (λ n. Stands r.at t call.InfoRead (reply.Message h ticket o.code n left)) (held_size o outcome.held) r.stands;
+  orderly = r.orderly;
+  outcome = outcome;
+  body = λ ok. (r.body ok).held outcome.held;
+  of_addition = r.of_addition;
+  as_told = r.as_told;
+}
+
 -- what is read after calls that waited
-pub next_of : {Q : Type 0} (s at t : SeatView Q OutcomeValue) (r : Result (Option Message) NoMessage) → Waited s at
+pub next_of : {Q : Type 0} (s at t : SeatView Q OutcomeValue) {D : Type 0} (r : Result (Option (Message D)) NoMessage) → Waited s at
     → IfOk r (λ o. MatchOption o (Waited at t) (λ m. (m.code ≡ m.outcome.code) × IsRead at t m.handle m.ticket m.outcome m.left))
-    → IfOk r (λ o. MatchOption o (Waited s t) (λ m. IsNextMessage s t m.handle m.ticket m.outcome m.left))
+    → IfOk r (λ o. MatchOption o (Waited s t) (λ m. IsNextEnd s t m.handle m.ticket m.outcome m.left))
 next_of s at t (Ok None) w h = waited_on s at t w h
 next_of s at t (Ok (Some m)) w h = next s at t m.handle m.ticket m.outcome m.left w h.1
 next_of s at t (Err e) w h = tt

@@ -1,5 +1,5 @@
 -- What is known of a message.
-use Rattle.std.specs.Prelude.{◌≡◌, ◌⊎◌, ℕ, ◌≤◌, true, false, not, All, List, ◌∷◌, ◌++◌, map, length}
+use Rattle.std.specs.Prelude.{◌≡◌, ◌⊎◌, ℕ, ◌≤◌, true, false, not, All, List, ◌∷◌, ◌++◌, map, length, None}
 use Rattle.std.specs.List.{filter}
 use Rattle.mx_types.specs.declared.code.Code.TheVariants as code
 use Rattle.mx_types.specs.declared.names.HandleId.{HandleId}
@@ -15,8 +15,8 @@ use Rattle.mx_types.specs.declared.origin.Origin.{Origin}
 use Rattle.mx_request.specs.Request.{request_origin}
 use Rattle.mx_body.specs.Parts.{joined}
 use Rattle.mx_link.specs.Answers.{given}
-use Rattle.mx_exchange.specs.Hops.{HasContent}
-use Rattle.mx_chain.specs.Outcomes.{OutcomeValue, IsOutcome}
+use Rattle.mx_exchange.specs.Hops.{HasBody, HasContent}
+use Rattle.mx_chain.specs.Outcomes.{OutcomeValue, IsEnd, IsOutcome, size_of}
 use Rattle.mx_journal.specs.History.{ends, is_legal, occurs, reads, removes, waiting}
 use Rattle.mx_journal.specs.Laws.{count_of_events, done_tickets, is_of, is_removed_unread, read_tickets}
 use Rattle.mx_lock.specs.Ties.{Has, tie}
@@ -43,6 +43,15 @@ pub record CarriesBody (o : OutcomeValue) : Type 0 where
   pub content : HasContent o.last
   pub same : joined o.wire o.parts ≡ joined o.last.wire o.last.parts
 
+-- Its bytes are all that the connection of its last hop gave, and the first of them are a response by RFC 9112 to the last request of the
+-- chain. The bytes at the parts of that hop, joined, and then what was handed on are that response's content: one of the two is empty. Where
+-- the response is held it carries the body.
+pub record DeliversBody (o : OutcomeValue) : Type 0 where
+  pub within : given o.last.answers ≡ o.wire
+  pub body : HasBody o.last
+  pub handed : o.content ≡ o.last.content
+  pub held : o.last.limit ≡ None → CarriesBody o
+
 -- a call by which a seat waits for a message: a reading that found none, or a poll
 abbrev pub IsWait : Receipt → Type 0
 IsWait r = ((r.call ≡ call.InfoRead) × (r.reply ≡ reply.Empty)) ⊎ ((r.call ≡ call.Poll) × (r.reply ≡ reply.Woken))
@@ -59,12 +68,32 @@ pub record Unread {Q : Type 0} (s t : SeatView Q OutcomeValue) : Type 0 where
   pub waited : Waited s at
   pub last : (t ≡ at) ⊎ Stands at t call.InfoRead reply.OutOfMemory
 
+-- the answer of a reading that hands out what a transfer ended with, whatever became of its content
+abbrev pub answer_of_end : HandleId → Ticket → OutcomeValue → ℕ → Reply
+answer_of_end h t o left = reply.Message h t o.code (size_of o) left
+
 -- the seat read this message, whose outcome is true, and whose first request is the one that was added under the ticket
 pub record IsRead {Q : Type 0} (s t : SeatView Q OutcomeValue) (h : HandleId) (ticket : Ticket) (o : OutcomeValue) (left : ℕ) : Type 0 where
-  pub stands : Stands s t call.InfoRead (answer_of h ticket o left)
-  pub outcome : IsOutcome o
-  pub body : o.code ≡ code.Ok → CarriesBody o
+  pub stands : Stands s t call.InfoRead (answer_of_end h ticket o left)
+  pub end : IsEnd o
+  pub body : o.code ≡ code.Ok → DeliversBody o
   pub of_addition : Has t.ties (tie ticket (request_origin o.request))
+
+-- The next message, whatever became of the content of its response, is a reading of the one legal history, of the request that was added under
+-- its ticket, and with code 0 its body was held or handed on.
+pub record IsNextEnd {Q : Type 0} (s t : SeatView Q OutcomeValue) (h : HandleId) (ticket : Ticket) (o : OutcomeValue) (left : ℕ) : Type 0 where
+  -- the calls that waited for it, readings that found none and polls, have receipts after those of the seat, and then comes the reading
+  pub at : SeatView Q OutcomeValue
+  pub waited : Waited s at
+  pub stands : Stands at t call.InfoRead (answer_of_end h ticket o left)
+  -- at most one for an addition, none after its removal, first in, first out
+  pub orderly : IsOrderly t.seen ticket
+  -- its hops are a chain, from its first request on, and each ended as its link answered
+  pub end : IsEnd o
+  pub body : o.code ≡ code.Ok → DeliversBody o
+  -- the first request is the one that was added under its ticket: the one that the seat was told, if it was
+  pub of_addition : Has t.ties (tie ticket (request_origin o.request))
+  pub as_told : (origin : Origin) → Has s.ties (tie ticket origin) → request_origin o.request ≡ origin
 
 -- rule multi-next-message: The next message is a reading of the one legal history, of the request that was added under its ticket, and with
 -- code 0 it has its body.

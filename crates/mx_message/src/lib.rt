@@ -3,4 +3,6 @@
 
 mod next;
 
-pub use crate::next::{Message, NoMessage, next_message, next_message_within};
+pub use crate::next::{
+    Message, NoMessage, next_end, next_end_within, next_message, next_message_within,
+};

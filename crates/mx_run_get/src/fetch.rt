@@ -16,6 +16,7 @@ use mx_fetch::{FetchEnd, Room, fetch_over_sockets};
 use mx_get_text::Fetched;
 use mx_multi::Limits;
 use mx_run_io::{Options, Stop};
+use mx_sink::Held;
 use std::alloc::AllocGlobal;
 use std::net::{Net, TcpListener, TcpStream};
 use std::time::Instant;
@@ -82,7 +83,7 @@ fn fetch_from<R: Runtime + Net<Listener = TcpListener, Stream = TcpStream>>(
     ensures cause { IfErr result (λ e. is_of_run e ≡ true) }
 {
     let getting = Getting::boxed(rt.alloc(), urls, options)?;
-    let end = fetch_over_sockets(rt, getting, start, room(options), false);
+    let end = fetch_over_sockets::<Held, R, Getting<'_>>(rt, getting, start, room(options), false);
     *met_file_limit = end.met_file_limit;
     ends_of(rt, end)
 }

@@ -19,6 +19,7 @@ use mx_get_text::build_get;
 use mx_link::Link;
 use mx_request::{Request, RequestError};
 use mx_run_io::{Options, Stop};
+use mx_sink::Held;
 use std::alloc::{AllocGlobal, Global};
 use std::marker::Model;
 use std::rt::Clock;
@@ -116,7 +117,7 @@ impl<'u> Getting<'u> {
         ensures same { IsSameGetting self.old self.new }
     {
         let asked = Snapshot::of(&request);
-        let Some(_) = desk.add(rt, self.places.as_slice().len(), request)? else {
+        let Some(_) = desk.add(rt, self.places.as_slice().len(), request, Held)? else {
             return Ok(());
         };
         self.places.push(Place::Awaited(asked))?;
@@ -229,7 +230,7 @@ impl<'u> Getting<'u> {
     }
 }
 
-impl<'u> Fetch for Getting<'u> {
+impl<'u> Fetch<Held> for Getting<'u> {
     ghost is_asked = { λ g asked. AreAwaited g.places asked };
 
     ghost has_turned = { λ g how. HasLeft g how };

@@ -14,6 +14,7 @@ use mx_folder::Folder;
 use mx_link::Link;
 use mx_request::Request;
 use mx_run_io::Stop;
+use mx_sink::Held;
 use std::alloc::AllocGlobal;
 use std::io::{Read, Write};
 use std::sync::Wait;
@@ -51,7 +52,7 @@ fn add<'a, L: Link, F: Folder, W: Write, Rd: Read + Drop, R: Wait + AllocGlobal>
     ensures going { work.new.book.is_stopped ≡ work.old.book.is_stopped }
     ensures run { IsSameWork work.old work.new }
 {
-    match desk.add(rt, at, request) {
+    match desk.add(rt, at, request, Held) {
         Ok(Some(ticket)) => {
             work.add(at, ticket);
             Ok(Begun::Added)

@@ -14,6 +14,7 @@ use mx_fetch::{Fetch, Turned};
 use mx_folder::Folder;
 use mx_link::Link;
 use mx_run_io::Stop;
+use mx_sink::Held;
 use std::alloc::AllocGlobal;
 use std::io::{Read, Write};
 use std::rt::Clock;
@@ -27,7 +28,7 @@ pub struct Run<'a, F: Folder, W: Write, Rd: Read + Drop, V> {
     pub timer: Timer,
 }
 
-impl<'a, F: Folder, W: Write, Rd: Read + Drop, V: Watch> Fetch for Run<'a, F, W, Rd, V> {
+impl<'a, F: Folder, W: Write, Rd: Read + Drop, V: Watch> Fetch<Held> for Run<'a, F, W, Rd, V> {
     ghost is_asked = { λ r asked. (r.work.book.is_stopped ≡ false) × AreAsked r.work.book.asking r.work.book.slots asked
         × AreBroughtOn r.work.book.slots r.work.waiting };
 

@@ -21,6 +21,7 @@ use mx_folder::Folder;
 use mx_run_io::Stop;
 use mx_save::Ledger;
 use mx_save_book::{Asking, Book, Lines, Slot, WholeBody, free_slots};
+use mx_sink::Held;
 use std::alloc::{AllocFailed, AllocGlobal};
 use std::io::{Read, Write};
 use std::net::{Net, TcpListener, TcpStream};
@@ -60,7 +61,13 @@ fn run_boxed<
     match Box::new(rt.alloc(), run) {
         Ok(run) => {
             let start = run.timer.start();
-            let end = fetch_over_sockets(rt, run, start, plan.room(), may_fill);
+            let end = fetch_over_sockets::<Held, R, Run<'a, F, W, Rd, V>>(
+                rt,
+                run,
+                start,
+                plan.room(),
+                may_fill,
+            );
             let FetchEnd {
                 errand,
                 stopped,

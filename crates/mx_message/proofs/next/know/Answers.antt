@@ -1,6 +1,8 @@
 use Rattle.std.proofs.Common.{◌∙◌}
-use Rattle.mx_message.proofs.Messages.{carries}
+use Rattle.mx_message.proofs.Messages.{delivers}
 use Rattle.mx_message.proofs.next.know.Goals as goal
 
 pub returns-clause-body : goal.returns-clause-body
-returns-clause-body c = λ ok. carries _ _ c.know.ensures c.wire-wire.ensures.all c.wire-wire.ensures.wire (c.code-code.ensures.content (c.code-code.ensures.code ∙ ok)) ok
+returns-clause-body g c = λ ok.
+    let is = c.code-code.ensures.code ∙ ok in
+    delivers _ c.know_end.ensures.end c.know_end.ensures.all (c.code-code.ensures.body is) (c.code-code.ensures.handed is) (λ held. c.code-code.ensures.content held is) ok

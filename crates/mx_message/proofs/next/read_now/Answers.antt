@@ -3,7 +3,7 @@ use Rattle.mx_message.proofs.next.read_now.Goals as goal
 
 pub returns-in-Message-clause-read : goal.returns-in-Message-clause-read
 returns-in-Message-clause-read g c =
-    (c.code-code.ensures.code, read_is _ _ _ _ _ _ _ c.in-Message.is c.in-Ok.ensures.stands c.in-Ok.ensures.tells c.know.ensures.outcome c.know.ensures.body)
+    (c.code-code.ensures.code, read_is _ _ _ _ _ _ _ c.in-Message.is c.in-Ok.ensures.stands c.in-Ok.ensures.tells c.know.ensures.end c.know.ensures.body)
 
 pub returns-in-Empty-clause-read : goal.returns-in-Empty-clause-read
 returns-in-Empty-clause-read g c = found_none _ _ c.in-Ok.reply c.in-Empty.is c.in-Ok.ensures.stands
