@@ -52,6 +52,7 @@ pub record IsGetOf (given : Found) (get : Get) : Type 0 where
   pub options : AreOptionsOf given get.options
   pub urls : map (λ u. u.now) get.urls.items ≡ texts_of given (codes "URL")
   pub explain : IsFlagOf given (codes "explain") get.explain
+  pub body : IsFlagOf given (codes "body") get.body
 
 -- the numbers of `save`
 pub record AreNumbersOf (given : Found) (n : SaveNumbers) : Type 0 where

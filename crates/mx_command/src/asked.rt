@@ -13,6 +13,8 @@ pub struct Get<'a> {
     pub urls: Vec<&'a str>,
     /// What failed is reported on standard error.
     pub explain: bool,
+    /// The body of the URL is written as it comes, and nothing else. There should be one URL.
+    pub body: bool,
 }
 
 /// What a command line asks for.

@@ -17,7 +17,7 @@ use mx_run_io::Options;
 use mx_types::{LEAST_HISTORY, MOST_HISTORY, Method};
 use std::alloc::{AllocError, Global};
 
-static GET: [OptionRow; 6] = [
+static GET: [OptionRow; 7] = [
     OptionRow {
         name: "workers",
         takes: Takes::Number(1, 16),
@@ -53,6 +53,12 @@ static GET: [OptionRow; 6] = [
         takes: Takes::Nothing,
         default: None,
         help: "Say on standard error what failed, and why",
+    },
+    OptionRow {
+        name: "body",
+        takes: Takes::NothingBeside("explain"),
+        default: None,
+        help: "Write one URL's body as it comes, and nothing else",
     },
 ];
 
@@ -177,6 +183,7 @@ fn get_of<'a>(alloc: Global, get: &ArgMatches<'a>) -> Result<Option<Get<'a>>, Al
         options,
         urls,
         explain: given::flag_of(get, "explain"),
+        body: given::flag_of(get, "body"),
     }))
 }
 

@@ -41,7 +41,12 @@ each that has ended.
 
 With --explain standard error says of each URL that failed why: of a response
 that is refused the byte, counted from 1, and the rule; of one that ended early
-how much of it came. What is printed stays the same.";
+how much of it came. What is printed stays the same.
+
+With --body there is one URL, and the body of its response, whatever its status
+and its length, is written as it comes, and nothing else. Where that fails, a
+line on standard error says why, and what was written is a prefix of the body:
+    mxfetch get --body http://example.com/a.tar | tar x";
 
 /// The exit statuses of `get`, and an example.
 pub const MORE_GET: &str = "Exit status: the first C that isn't 0, in the order of the URLs:
@@ -53,6 +58,7 @@ pub const MORE_GET: &str = "Exit status: the first C that isn't 0, in the order 
     7  a connection was refused, or could not be made
     8  what came is not an HTTP response, or its head is incomplete or refused
    18  a connection ended within a body
+   23  with --body: the body couldn't be written
    27  out of memory, or (`FAULT 27`) no thread, poll, clock or result
    28  a transfer took longer than --timeout-ms
    47  there were more redirects than --max-redirects
@@ -60,9 +66,9 @@ pub const MORE_GET: &str = "Exit status: the first C that isn't 0, in the order 
    55  a request could not be sent
    56  a read failed, or the framing of a chunked body is bad
    61  a transfer coding other than one `chunked`
-   63  a response can't fit in 67108864 bytes
+   63  without --body: a response can't fit in 67108864 bytes
   100  a head has more than 65536 bytes or 128 field lines
-  120  the command line is refused, or has more than 256 URLs
+  120  the command line is refused, or has more than 256 URLs, with --body one
   121  the output couldn't be written
 
 Example:

@@ -15,9 +15,10 @@ use clap::error::ErrorKind;
 use mx_command::{Asked, Get, Task, hint_of, read_command};
 use mx_run_body::{MOST_READS, run_body_explained};
 use mx_run_get::{MOST_URLS, Runtime, run_get, run_get_explained};
+use mx_run_get_body::run_get_body;
 use mx_run_io::{Input, Output, UNWRITTEN, end_with};
 use mx_run_save::{REFUSED, Screen, refuse_save, run_save};
-use mx_types::{Code, Method};
+use mx_types::{Code, Method, OUT_OF_MEMORY};
 use std::env::FillError;
 use std::io::{BufWriter, IsTerminal, Write};
 use std::net::{Net, TcpListener, TcpStream};
@@ -52,14 +53,14 @@ fn is_there(rt: &impl Env, at: usize) -> bool {
     !matches!(rt.arg(at, &mut [0u8; 8]), Err(FillError::NotPresent))
 }
 
-/// Whether objects are to be printed: a word is `--json` that is neither the value of `--data` nor behind `--`. It takes no memory.
-fn has_json(rt: &impl Env) -> bool {
+/// Whether a word is that flag, and is neither the value of `--data` nor behind `--`. It takes no memory.
+fn has_flag(rt: &impl Env, flag: &str) -> bool {
     let mut is_value = false;
     for at in 2..usize::MAX {
         if !is_there(rt, at) || (!is_value && is_word(rt, at, "--")) {
             return false;
         }
-        if !is_value && is_word(rt, at, "--json") {
+        if !is_value && is_word(rt, at, flag) {
             return true;
         }
         is_value = !is_value && is_word(rt, at, "--data");
@@ -73,7 +74,12 @@ fn end_unread(rt: &(impl Env + Print + Eprint)) -> u8
     ensures { (result ≡ 27) ⊎ (result ≡ 121) }
 {
     if is_word(rt, 1, "save") {
-        return refuse_save(rt, has_json(rt));
+        return refuse_save(rt, has_flag(rt, "--json"));
+    }
+    // What it writes is the body alone.
+    if is_word(rt, 1, "get") && has_flag(rt, "--body") {
+        let _ = eprintln!(rt; "mxfetch: {OUT_OF_MEMORY} (27)");
+        return Code::OutOfMemory.number() as u8;
     }
     out_of_memory(rt)
 }
@@ -167,6 +173,22 @@ fn fetch<
     }
 }
 
+/// Fetches the one URL that `get --body` is asked for, and writes its body. More URLs are refused.
+fn fetch_body<
+    R: Runtime + Net<Listener = TcpListener, Stream = TcpStream> + Eprint,
+    W: Write + Send + Drop,
+    E: Write + Drop,
+>(rt: &R, get: Get<'_>, stdout: W, stderr: E) -> u8
+    requires { are_within get.options ≡ true }
+    ensures many { 1 < length get.entry.urls.items → result ≡ REFUSED }
+{
+    let [url] = get.urls.as_slice() else {
+        let _ = eprintln!(rt; "--body takes one URL");
+        return REFUSED;
+    };
+    run_get_body(rt, url, get.options, stdout, &mut Output::new(stderr))
+}
+
 /// The words of the command line, or the exit status where there are none: memory was refused, or a word isn't UTF-8.
 fn words(rt: &HostRuntime) -> Result<Vec<String>, u8>
     ensures { IfErr result (λ status. (status ≡ 120) ⊎ ((status ≡ 27) ⊎ (status ≡ 121))) }
@@ -206,6 +228,7 @@ fn main(rt: HostRuntime) -> ExitCode {
     ExitCode::from(match read_command(rt.alloc(), words.as_slice()) {
         Ok(Asked::Task(task)) => run(&rt, task),
         Ok(Asked::Explain(method)) => run_explained(&rt, method, rt.stderr()),
+        Ok(Asked::Get(get)) if get.body => fetch_body(&rt, get, rt.stdout(), rt.stderr()),
         Ok(Asked::Get(get)) => fetch(&rt, get, rt.stderr()),
         Ok(Asked::Save(save)) => {
             let process = process::id(rt.process());

@@ -1,0 +1,4 @@
+mod Bodies
+mod Fetchings
+mod Outputs
+mod Sends
