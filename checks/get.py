@@ -9,6 +9,7 @@ import sys
 import threading
 import time
 
+import bodies
 import hostile
 import redirects
 from servers import (MIB, PROGRAM, WORK, Nginx, Run, Server, Wrong, body_of, chunked, counted, deaf, keeping, read_request, refuse_growths,
@@ -333,7 +334,8 @@ def case_refused_growths():
 
 
 def main():
-    cases = [(name[5:], case) for name, case in [*globals().items(), *vars(hostile).items(), *vars(redirects).items()] if name.startswith("case_")]
+    cases = [(name[5:], case) for name, case in [*globals().items(), *vars(bodies).items(), *vars(hostile).items(),
+                                                 *vars(redirects).items()] if name.startswith("case_")]
     word = sys.argv[1] if len(sys.argv) > 1 else ""
     if not any(word in name for name, _ in cases):
         sys.exit(f"no case has {word!r} in its name")

@@ -22,7 +22,7 @@ import glob, re, sys
 UNUSED = re.compile(r"\s*let _\w* = (&?[\w.]+|[\w.]+\.(code|len|request|ticket|wire)\(\));")
 CALL = re.compile(r"\s*(?:let \w+ = )?[\w.:()]*\b(\w+)\(.*\);")
 FUNCTION = re.compile(r"\s*(?:pub(?:\([^)]*\))? )?fn (\w+)")
-named = {"know", "sound", "are_of_one_list", "ok_has_content", "hops_keep_private"}
+named = {"know", "know_end", "sound", "are_of_one_list", "ok_has_content", "hops_keep_private"}
 
 texts = {}
 for path in sorted(glob.glob("crates/*/src/**/*.rt", recursive=True)):

@@ -100,6 +100,12 @@ def case_get_redirects_and_failures():
         want_clean(["get", "--workers", "2", "--max-redirects", "3", *tangled_urls(server, nobody, 40)], 47)
 
 
+def case_get_body():
+    with Server(tangled) as server:
+        for path, status in (("/from1", 0), ("/round1", 47), ("/short1", 18), ("/whole1", 0)):
+            want_clean(["get", "--body", "--max-redirects", "3", server.url(path)], status)
+
+
 def case_save_with_a_short_history():
     with Server(keeping) as server:
         urls = [server.url(f"/s{number}") for number in range(300)]
@@ -117,6 +123,7 @@ def case_refused_growths():
     with Server(keeping) as server:
         urls = [server.url("/one"), server.url("/two")]
         refuse_some(["get", "--workers", "1", *urls], (0, 27), 23)
+        refuse_some(["get", "--body", urls[0]], (0, 27), 23)
         refuse_some(["save", "--into", tempfile.mkdtemp(dir=WORK), "--history", "4", "--workers", "1", *urls], (0, 23, 27), 23)
 
 

@@ -149,7 +149,7 @@ def constant(path, name):
 
 codes = set(map(int, re.findall(r"(?m)^code_number \S+ = (\d+)$", source("mx_types/specs/Code.antt"))))
 # 23 comes where content is handed on as it comes, which `get` doesn't do.
-compare("the exit statuses in the help of get", sorted(numbers(main["MORE_GET"])), sorted(codes - {23} | {120, 121}))
+compare("the exit statuses in the help of get", sorted(numbers(main["MORE_GET"])), sorted(codes | {120, 121}))
 told = numbers("\n".join(words[f"MORE_{key}"] for _, words, key, *_ in commands))
 told |= set(map(int, re.findall(r"(?m)^save_number \S+ = (\d+)$", source("mx_save_rules/specs/Codes.antt")))) | {132}
 compare("the exit statuses in man/sections.1", list(map(int, re.findall(r"(?m)^\.TP 6\n\\fB(\d+)\\fR$", section("EXIT STATUS")))), sorted(told))

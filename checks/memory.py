@@ -70,6 +70,7 @@ def case_little_stack():
             (["body", "--explain", "GET"], RESPONSE + b"!", 0),
             (["play"], SCRIPT, 0),
             (["get"] + urls, b"", 0),
+            (["get", "--body", urls[0]], b"", 0),
             (["get", "--explain", "--workers", "1", "http://127.0.0.1:1/"], b"", 7),
             (["get", "--workers", "4", named] + urls, b"", 0),
             (["save", "--into", folder()] + urls, b"", 0),

@@ -1,6 +1,6 @@
 //! Callers of a transfer, like the layers above it: each has a contract, which follows from the clauses of what it calls with no proof
 //! file. So the clauses say enough for the layers above.
-ghost use Rattle.std.specs.Prelude.{◌≡◌, ◌≢◌, ◌≤◌, true, None, Some, length};
+ghost use Rattle.std.specs.Prelude.{◌≡◌, ◌≢◌, ◌≤◌, true, None, IsSome, length};
 ghost use Rattle.futures.specs.Poll.{IfReady, OnPending};
 ghost use Rattle.mx_types.specs.declared.code.Code.TheVariants as code;
 ghost use Rattle.mx_line.specs.Order.{InOrder};
@@ -13,14 +13,14 @@ ghost use Rattle.mx_chain.specs.Outcomes.{IsOutcome, hops_of, is_outcome_code};
 use futures::Future;
 use futures::task::{Context, Poll};
 use mx_link::Link;
-use mx_transfer::{Ended, Outcome, Transfer};
+use mx_transfer::{Outcome, Transfer};
 use mx_types::Code;
 
 /// Polls once.
-pub fn poll_once<L: Link>(transfer: &mut Transfer<L>, cx: &mut Context<'_>) -> Poll<Ended>
+pub fn poll_once<L: Link>(transfer: &mut Transfer<L>, cx: &mut Context<'_>) -> Poll<Outcome>
     requires { transfer.old.chain.code ≡ None }
     ensures request { IfReady result (λ outcome. outcome.request ≡ transfer.old.chain.request) }
-    ensures code { IfReady result (λ outcome. transfer.new.chain.code ≡ Some outcome.code) }
+    ensures code { IfReady result (λ outcome. IsSome transfer.new.chain.code) }
     ensures received { IfReady result (λ outcome. received_of transfer.new.chain ≡ bytes_in (hops_of outcome)) }
     ensures again { OnPending result (transfer.new.chain.code ≡ None) }
     ensures kept { OnPending result (transfer.new.chain.request ≡ transfer.old.chain.request) }
@@ -38,6 +38,8 @@ pub fn is_whole(outcome: &Outcome) -> bool
     ensures only { outcome.now.code ≡ code.Ok → result ≡ true }
     ensures listed { is_outcome_code outcome.now.code outcome.now.last.limit ≡ true }
 {
+    // proof: its response is held
+    outcome.know();
     outcome.code() == Code::Ok
 }
 

@@ -70,7 +70,7 @@ fn poll<L: Link>(task: &MockTask, transfer: &mut Transfer<L>) -> Option<Code> {
     }
     match task.poll(transfer) {
         Poll::Ready(ended) => {
-            let code = ended.end().code();
+            let code = ended.code();
             drop(ended);
             Some(code)
         }

@@ -6,7 +6,7 @@ use futures::test::MockTask;
 use mx_link::{ScriptLink, ScriptRead};
 use mx_request::{Request, RequestError};
 use mx_sink::{MemorySink, Outlet};
-use mx_transfer::{Ended, Transfer};
+use mx_transfer::{Outcome, Transfer};
 use mx_types::{Code, Method, Settings};
 use std::alloc::Global;
 
@@ -80,10 +80,9 @@ static ROWS: [Delivered; 5] = [
 ];
 
 /// Fails unless it has ended as the row says. An end with `OutOfMemory` is reported as that.
-fn check_end(ended: Ended<Outlet<MemorySink>>, row: &Delivered) -> Result<(), Stop> {
-    let (end, outlet, rest) = ended.into_parts();
-    let code = end.code();
-    drop(end);
+fn check_end(outcome: Outcome<Outlet<MemorySink>>, row: &Delivered) -> Result<(), Stop> {
+    let code = outcome.code();
+    let (outlet, rest) = outcome.into_delivery();
     let is_rest = rest.as_slice() == row.rest;
     drop(rest);
     let is_left = outlet.left() == row.left;
@@ -108,8 +107,8 @@ fn play_on(
         if transfer.spent() {
             return Err(Stop::Part("when it ends"));
         }
-        if let Poll::Ready(ended) = task.poll(transfer) {
-            return check_end(ended, row);
+        if let Poll::Ready(outcome) = task.poll(transfer) {
+            return check_end(outcome, row);
         }
     }
     Err(Stop::Part("that it ends"))

@@ -275,7 +275,7 @@ pub(crate) fn poll(task: &MockTask, transfer: &mut Transfer<ScriptLink>) -> Opti
         return None;
     }
     match task.poll(transfer) {
-        Poll::Ready(ended) => Some(ended.into_outcome()),
+        Poll::Ready(ended) => Some(ended),
         Poll::Pending => None,
     }
 }

@@ -27,7 +27,7 @@ fn poll(
         return Err(Error::from(ErrorKind::BrokenPipe));
     }
     match task.poll(transfer) {
-        Poll::Ready(ended) => Ok(Fetched::of(alloc, ended.into_outcome())),
+        Poll::Ready(ended) => Ok(Fetched::of(alloc, ended)),
         Poll::Pending => Err(Error::from(ErrorKind::WouldBlock)),
     }
 }

@@ -6,6 +6,8 @@ mod by_hand;
 #[cfg(test)]
 mod crew;
 #[cfg(test)]
+mod flowing;
+#[cfg(test)]
 mod gates;
 #[cfg(test)]
 pub mod holding;

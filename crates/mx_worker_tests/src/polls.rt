@@ -25,7 +25,7 @@ pub fn poll_at(
     let _again: Poll<()> = cx.yield_now();
     cx.park();
     match polled {
-        Poll::Ready(ended) => Some(ended.into_outcome()),
+        Poll::Ready(ended) => Some(ended),
         Poll::Pending => None,
     }
 }

@@ -1,5 +1,6 @@
 //! The rows that are played without a refusal alone.
 
+use crate::flowing;
 use crate::links::{LINKS, WAITING};
 use crate::play::try_rows;
 use crate::table::{BY_HAND, ENDING};
@@ -11,4 +12,9 @@ fn each_row_comes_as_it_says(rt: HostRuntime) -> Result<(), Fail> {
     try_rows(&rt, &BY_HAND)?;
     try_rows(&rt, &LINKS)?;
     try_rows(&rt, &WAITING)
+}
+
+#[test]
+fn each_flow_comes_as_it_says(rt: HostRuntime) -> Result<(), Fail> {
+    flowing::are_so(&rt)
 }

@@ -17,30 +17,33 @@ use std::random::RandomSource;
 use std::sync::Wait;
 
 /// A GET of the URL, which has so many milliseconds, or no deadline where these are 0, and follows so many redirects at most.
+pub fn request_of(
+    alloc: Global,
+    url: &str,
+    timeout_ms: u32,
+    max_redirects: u8,
+) -> Result<Request, Trouble> {
+    let mut settings = Settings::new(alloc);
+    settings.timeout_ms = timeout_ms;
+    settings.max_redirects = max_redirects;
+    match Request::build(alloc, Method::Get, url, settings) {
+        Ok(request) => Ok(request),
+        Err(RequestError::OutOfMemory) => Err(Trouble::NoMemory),
+        Err(_) => Err(Trouble::Wrong),
+    }
+}
+
+/// The work of such a request, whose response is held.
 pub fn work_of<L: Link>(
     alloc: Global,
     url: &str,
     timeout_ms: u32,
     max_redirects: u8,
 ) -> Result<Queued<L>, Trouble> {
-    let mut settings = Settings::new(alloc);
-    settings.timeout_ms = timeout_ms;
-    settings.max_redirects = max_redirects;
-    queue(alloc, Request::build(alloc, Method::Get, url, settings))
-}
-
-// The work of a request that was built.
-fn queue<L: Link>(
-    alloc: Global,
-    built: Result<Request, RequestError>,
-) -> Result<Queued<L>, Trouble> {
-    match built {
-        Ok(request) => match Queued::new(alloc, request) {
-            Ok(work) => Ok(work),
-            Err(_) => Err(Trouble::NoMemory),
-        },
-        Err(RequestError::OutOfMemory) => Err(Trouble::NoMemory),
-        Err(_) => Err(Trouble::Wrong),
+    let request = request_of(alloc, url, timeout_ms, max_redirects)?;
+    match Queued::new(alloc, request) {
+        Ok(work) => Ok(work),
+        Err(_) => Err(Trouble::NoMemory),
     }
 }
 
