@@ -5,6 +5,7 @@ use crate::wrong::{By, Wrong, first_wrong_of_all, verdict};
 use mx_body::Part;
 use mx_flow::{Stand, Stream};
 use mx_head::{Framing, HeadStep, framing, read_head};
+use mx_reason::reason_of;
 use mx_responses_tests_base::bases::{LARGE, OPEN, SHORT, WHOLE};
 use mx_responses_tests_base::bytes::COUNTED;
 use mx_responses_tests_base::response::Response;
@@ -103,6 +104,18 @@ enum Told {
     OfAny,
 }
 
+// rule body-stream-reason
+/// Whether the stream of a row of the table tells the reason of a response that is held. It tells none where the body is too large.
+fn tells_why(alloc: Global, stream: &Stream, row: &Response, bytes: &[u8], told: Told) -> bool {
+    match told {
+        Told::OfWhole => {
+            row.code == Code::FilesizeExceeded
+                || stream.why() == reason_of(alloc, row.method, bytes)
+        }
+        Told::OfAny => true,
+    }
+}
+
 /// Whether the content that was handed on is that of a row.
 fn is_content(content: &[u8], row: &Response, told: Told) -> bool {
     match told {
@@ -123,7 +136,8 @@ fn is_handed_on(
     let mut stream = Stream::new(alloc, row.method, most_bytes);
     let mut out = Vec::new(alloc);
     let is_taken = takes(&mut stream, row, bytes, len, &mut out);
-    let is_right = is_taken & is_content(&out, row, told);
+    let is_told = tells_why(alloc, &stream, row, bytes, told);
+    let is_right = is_taken & is_told & is_content(&out, row, told);
     drop(out);
     drop(stream);
     is_right

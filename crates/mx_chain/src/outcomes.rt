@@ -13,6 +13,7 @@ ghost use Rattle.mx_types.specs.declared.code.Code.TheVariants as code;
 
 use crate::followed::{Hops, heads_of};
 use mx_exchange::Hop;
+use mx_reason::Reason;
 use mx_request::Request;
 use mx_sink::{Delivery, Held};
 use mx_types::{Code, Ending, OutOfMemory};
@@ -175,6 +176,15 @@ impl<D: Delivery> Outcome<D> {
         heads_of(&self.last)
     }
 
+    /// Why the bytes of the last hop's response are no whole response, where its content was handed on: after how many of them that is
+    /// decided, and what is wrong there; or where they end, if nothing is decided. `None` where they are one, where the body is too large,
+    /// and where more bytes came than are counted; and of a response that is held, which `reason_of` of `mx_reason` tells.
+    pub fn why(&self) -> Option<Reason>
+        ensures { hop.TellsReason self.now.last result }
+    {
+        self.last.why()
+    }
+
     /// Its delivery. What that was handed is a prefix of the content that was handed on. Where the code is `Ok`, it has not failed.
     pub fn delivery(&self) -> &D
         ensures limit { self.now.last.limit ≡ limit_by (D.flows result.now) }
@@ -216,12 +226,18 @@ impl<D: Delivery> Outcome<D> {
         self.last.body_len()
     }
 
-    // The length of the content that was handed on, held at the greatest number of 32 bits.
+    /// How many bytes of content were handed on, held at 18,446,744,073,709,551,615.
+    pub fn content_len(&self) -> u64
+        ensures { result ≡ min (length self.now.content) (2 ^ 64 - 1) }
+    {
+        self.delivery.count().saturating_add(self.rest.len() as u64)
+    }
+
+    // The same, held at the greatest number of 32 bits.
     fn handed_len(&self) -> u32
         ensures { result ≡ min (length self.now.content) (2 ^ 32 - 1) }
     {
-        let handed = self.delivery.count().saturating_add(self.rest.len() as u64);
-        match u32::try_from(handed) {
+        match u32::try_from(self.content_len()) {
             Ok(len) => len,
             Err(_) => u32::MAX,
         }

@@ -4,3 +4,4 @@ pub mod Advanced
 pub mod StageLemmas
 pub mod Bodies
 pub mod Sends
+pub mod Whys

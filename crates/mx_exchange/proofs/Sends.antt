@@ -20,7 +20,7 @@ use Rattle.mx_exchange.specs.contracts.exchanges.Exchange as Exchange
 use Rattle.mx_exchange.specs.contracts.exchanges.Exchange.TheInside as Inside
 
 hop_inside : IsSend HopInside.the_field.row
-hop_inside = struct_send (shape HopInside.the_type) (request_send, (search (sendable, crosses) depth 40, (search (sendable, crosses) depth 40, (search (sendable, crosses) depth 40, (search (sendable, crosses) depth 40, (search (sendable, crosses) depth 40, (search (sendable, crosses) depth 40, (search (sendable, crosses) depth 40, (search (sendable, crosses) depth 40, tt)))))))))
+hop_inside = struct_send (shape HopInside.the_type) (request_send, (search (sendable, crosses) depth 40, (search (sendable, crosses) depth 40, (search (sendable, crosses) depth 40, (search (sendable, crosses) depth 40, (search (sendable, crosses) depth 40, (search (sendable, crosses) depth 40, (search (sendable, crosses) depth 40, (search (sendable, crosses) depth 40, (search (sendable, crosses) depth 40, tt))))))))))
 
 pub hop_send : IsSend Hop.the_row
 hop_send =

@@ -1,5 +1,5 @@
 -- What holds of every hop.
-use Rattle.std.specs.Prelude.{◌≡◌, ℕ, ◌≤◌, ◌||◌, Bool, true, false, List, Option, is_some, ◌++◌, length, take, drop}
+use Rattle.std.specs.Prelude.{◌≡◌, ◌⊎◌, ℕ, ◌≤◌, ◌||◌, Bool, true, false, List, Option, Some, None, is_some, ◌++◌, length, take, drop}
 use Rattle.mx_types.specs.declared.code.Code.{Code}
 use Rattle.mx_types.specs.declared.code.Code.TheVariants as code
 use Rattle.mx_request.specs.Request.{RequestValue, IsRequest}
@@ -12,6 +12,8 @@ use Rattle.mx_body.specs.declared.decoder.Stand.TheVariants as stand
 use Rattle.mx_reader.specs.Judgements.{Judgement, Judges}
 use Rattle.mx_reader.specs.Laws.{IsWholeResponse}
 use Rattle.mx_reader.specs.Readers.{ReaderValue, IsKept}
+use Rattle.mx_reader.specs.Whys.{HasNone, HasReason}
+use Rattle.mx_reason.specs.declared.reason.Reason.{Reason}
 use Rattle.mx_link.specs.Answers.{given}
 use Rattle.mx_link.specs.declared.answers.Answer.{Answer}
 use Rattle.mx_line.specs.Order.{InOrder}
@@ -73,6 +75,12 @@ pub record HasContent (o : HopValue) : Type 0 where
   pub is : IsResponse o.request.method (take len o.wire) ended response
   pub content : joined o.wire o.parts ≡ response.content
 
+-- why the bytes of a response whose content was handed on are no whole response; nothing of one that is whole, too large, or of more bytes
+-- than are counted, nor of one that is held
+abbrev pub TellsReason : HopValue → Option Reason → Type 0
+TellsReason o None = IsWhole o ⊎ ((limit : ℕ) → o.limit ≡ Some limit → HasNone limit o.request.method o.wire)
+TellsReason o (Some reason) = (limit : ℕ) × (o.limit ≡ Some limit) × HasReason limit o.request.method o.wire reason
+
 -- the wire is a prefix of what the link gave
 abbrev pub IsFront : HopValue → Type 0
 IsFront o = given o.answers ≡ o.wire ++ drop (length o.wire) (given o.answers)
@@ -98,4 +106,4 @@ is_hop_code c limit = is_verdict_code c || is_exchange_code c limit
 abbrev pub MayEnd : RequestValue → Bool → List Answer → ReaderValue → Code → Type 0
 MayEnd request reused answers r c =
     InOrder reused request.bytes answers × Ends r.limit request.method reused answers r.wire r.judgement c
-    × IsKept r.limit r.wire r.kept
+    × IsKept r.limit r.wire r.kept × (r.method ≡ request.method)

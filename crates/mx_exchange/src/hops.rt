@@ -8,13 +8,14 @@ ghost use Rattle.mx_reader.specs.Readers.{IsKept};
 ghost use Rattle.mx_body.specs.Decision.{HasStatus, TellsLocation, IsPlaceIn};
 ghost use Rattle.mx_link.specs.Answers.{given};
 ghost use Rattle.mx_line.specs.Order.{InOrder};
-ghost use Rattle.mx_exchange.specs.Hops.{IsHop, IsWhole, HasBody, HasContent, IsFront, hop_of, is_hop_code};
+ghost use Rattle.mx_exchange.specs.Hops.{IsHop, IsWhole, HasBody, HasContent, IsFront, TellsReason, hop_of, is_hop_code};
 ghost use Rattle.mx_types.specs.declared.code.Code.TheVariants as code;
 
 use crate::laws;
 use mx_body::Part as BodyPart;
 use mx_link::Answer;
 use mx_reader::Reader;
+use mx_reason::Reason;
 use mx_request::{Request, is_redirect};
 use mx_types::{Code, History, OutOfMemory};
 use std::alloc::Global;
@@ -32,6 +33,7 @@ pub struct Hop {
     status: u16,
     parts: Vec<BodyPart>,
     location: Option<BodyPart>,
+    why: Option<Reason>,
     answers: Snapshot<History<Answer>>,
     is_reused: Snapshot<bool>,
 }
@@ -47,6 +49,7 @@ impl Drop for Hop {
             status: _,
             parts,
             location: _,
+            why: _,
             answers,
             is_reused,
         } = self;
@@ -64,7 +67,7 @@ impl Model for Hop {
     ghost use Rattle.mx_body.specs.Parts.{AreOrdered};
     ghost use Rattle.mx_body.specs.Decision.{IsPlaceIn};
     ghost use Rattle.mx_exchange.specs.Exchanges.{HopValue};
-    ghost use Rattle.mx_exchange.specs.Hops.{IsHop, hop_of};
+    ghost use Rattle.mx_exchange.specs.Hops.{IsHop, TellsReason, hop_of};
 
     ghost Value = { HopValue };
 
@@ -74,6 +77,7 @@ impl Model for Hop {
       ordered : AreOrdered 0 (length o.kept.items) o.parts.items;
       within : IsPlaceIn (length o.kept.items) o.location;
       outcome : IsHop (hop_of o.request o.read.value o.kept.items o.code o.status o.parts.items o.location o.answers.value o.is_reused.value);
+      reason : TellsReason (hop_of o.request o.read.value o.kept.items o.code o.status o.parts.items o.location o.answers.value o.is_reused.value) o.why;
     } };
 }
 
@@ -86,12 +90,14 @@ impl Hop {
         status: u16,
         parts: Vec<BodyPart>,
         location: Option<BodyPart>,
+        why: Option<Reason>,
         answers: Snapshot<History<Answer>>,
         is_reused: Snapshot<bool>,
     ) -> Hop
         requires ordered { AreOrdered 0 (length kept.items) parts.items }
         requires within { IsPlaceIn (length kept.items) location }
         requires outcome { IsHop (hop_of request read.value kept.items code status parts.items location answers.value is_reused.value) }
+        requires reason { TellsReason (hop_of request read.value kept.items code status parts.items location answers.value is_reused.value) why }
         ensures { result ≡ hop_of request read.value kept.items code status parts.items location answers.value is_reused.value }
     {
         Hop {
@@ -102,6 +108,7 @@ impl Hop {
             status,
             parts,
             location,
+            why,
             answers,
             is_reused,
         }
@@ -157,6 +164,15 @@ impl Hop {
         self.status
     }
 
+    /// Why the bytes of a response whose content was handed on are no whole response: after how many of them that is decided, and what is
+    /// wrong there; or where they end, if nothing is decided. `None` where they are one, where the body is too large, and where more bytes
+    /// came than are counted; and of a response that is held, which `reason_of` of `mx_reason` tells.
+    pub fn why(&self) -> Option<Reason>
+        ensures { TellsReason self.now result }
+    {
+        self.why
+    }
+
     /// The value of the first Location line of the final head (RFC 9110, section 10.2.2); `None` where that is empty, or there is no such
     /// line, or no final head.
     pub fn location(&self) -> Option<&[u8]>
@@ -196,6 +212,7 @@ impl Hop {
             status: _,
             parts,
             location: _,
+            why: _,
             answers,
             is_reused,
         } = self;

@@ -9,14 +9,14 @@ use Rattle.mx_body.specs.ChunkedPlace.{place_after, is_settled}
 use Rattle.mx_body.proofs.ChunkedRun.{place_after-append}
 use Rattle.mx_flow.specs.Data.{data_from}
 use Rattle.mx_flow.specs.Flows.{IsBodyOf, content_so_far, IsOpen, IsOpenBefore, HasState}
-use Rattle.mx_flow.specs.Steps.{place_of, state_at, IsAt}
-use Rattle.mx_flow.specs.Runs.{WasGoing, run_data, HasRun}
+use Rattle.mx_flow.specs.Steps.{place_of, state_at, IsAt, WasAt}
+use Rattle.mx_flow.specs.Runs.{WasGoing, WasTakenAt, run_data, HasRun}
 use Rattle.mx_flow.specs.declared.chunks.Run.{Run}
 use Rattle.mx_flow.specs.declared.place.WidePlace.{WidePlace}
 use Rattle.mx_flow.specs.declared.flow.BodyState.{BodyState}
 use Rattle.mx_flow.specs.declared.flow.BodyState.TheVariants as state
 use Rattle.mx_flow.proofs.DataLemmas.{data_from-append}
-use Rattle.mx_flow.proofs.LawProofs.{over_none, chunks_state, more_open}
+use Rattle.mx_flow.proofs.LawProofs.{over_none, chunks_state, more_open, bad_settled}
 
 -- so many bytes of two texts
 take_past : (xs ys : List ℕ) (n k : ℕ) → n ≡ length xs + k → take n (xs ++ ys) ≡ xs ++ take k ys
@@ -58,6 +58,25 @@ module _ (limit : ℕ) (came piece before after : List ℕ) (at : WidePlace) (le
     ap (λ n. came ++ take n piece) len ∙ ap (λ t. came ++ t) (take_more piece k 0 (omega (arith, len, run.within))) ∙ sym (append_assoc came (take k piece) (get_or piece k 0 ∷ [])),
     (ap is_settled (leads k) ∙ live, omega (arith, fits, size k)),
   )
+
+  -- the last byte was taken at its place
+  was_at : WasTakenAt limit (place_of at) piece r.len (place_of r.before) → WasAt limit now r.before
+  was_at (k, len, there) = (
+    came ++ take k piece,
+    get_or piece k 0,
+    ap (λ n. came ++ take n piece) len ∙ ap (λ t. came ++ t) (take_more piece k 0 (omega (arith, len, run.within))) ∙ sym (append_assoc came (take k piece) (get_or piece k 0 ∷ [])),
+    there ∙ sym (leads k),
+  )
+
+  was_by : (over : Bool) → r.over ≡ over → (s : BodyState) → (r.over ≡ true → s ≡ state.TooLarge) → (r.over ≡ false → s ≡ state_at r.place)
+      → s ≡ state.Bad → WasAt limit now r.before
+  was_by true is_over s large at_place bad = absurd (let both : state.TooLarge ≡ state.Bad = sym (large is_over) ∙ bad in cc)
+  was_by false within s large at_place bad =
+      let settled = bad_settled r.place (sym (at_place within) ∙ bad) in
+      was_at (run.before_is within settled)
+
+  chunks_was : (s : BodyState) → (r.over ≡ true → s ≡ state.TooLarge) → (r.over ≡ false → s ≡ state_at r.place) → s ≡ state.Bad → WasAt limit now r.before
+  chunks_was s large at_place bad = was_by r.over refl s large at_place bad
 
   by_over : (over : Bool) → r.over ≡ over → (s : BodyState) → (r.over ≡ true → s ≡ state.TooLarge) → (r.over ≡ false → s ≡ state_at r.place)
       → HasState limit Chunked now s × (s ≡ state.More → (r.len ≡ length piece) × IsAt limit Chunked now r.place r.room)
@@ -140,6 +159,15 @@ chunks_are_fed limit Chunked came piece now before after at left r s is grown wa
       subst (λ (t : List ℕ). HasState limit Chunked t s) (sym grown) fed.0,
       λ more. ((fed.1 more).0, subst (λ (t : List ℕ). IsAt limit Chunked t r.place r.room) (sym grown) (fed.1 more).1),
     )
+
+pub chunks_were : (limit : ℕ) (framing : Framing) (came piece now before after : List ℕ) (at : WidePlace) (left : ℕ) (r : Run) (s : BodyState) → framing ≡ Chunked
+    → now ≡ came ++ take r.len piece → IsAt limit framing came at left → HasRun limit (place_of at) left piece r before after
+    → (r.over ≡ true → s ≡ state.TooLarge) → (r.over ≡ false → s ≡ state_at r.place) → s ≡ state.Bad → WasAt limit now r.before
+chunks_were limit Empty came piece now before after at left r s is grown was run large settled bad = cc
+chunks_were limit (Counted n) came piece now before after at left r s is grown was run large settled bad = cc
+chunks_were limit Close came piece now before after at left r s is grown was run large settled bad = cc
+chunks_were limit Chunked came piece now before after at left r s is grown was run large settled bad =
+    subst (λ (t : List ℕ). WasAt limit t r.before) (sym grown) (chunks_was limit came piece before after at left r was run s large settled bad)
 
 pub chunks_add : (limit : ℕ) (framing : Framing) (came piece now before after : List ℕ) (at : WidePlace) (left : ℕ) (r : Run) → framing ≡ Chunked
     → now ≡ came ++ take r.len piece → IsAt limit framing came at left → HasRun limit (place_of at) left piece r before after

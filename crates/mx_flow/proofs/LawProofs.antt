@@ -15,6 +15,7 @@ use Rattle.mx_flow.specs.Flows.{IsFramed, IsBodyOf, data_so_far, content_so_far,
 use Rattle.mx_flow.specs.Steps.{place_of, state_at, IsAt, first_left}
 use Rattle.mx_flow.specs.declared.place.WidePlace.{WidePlace}
 use Rattle.mx_flow.specs.declared.place.WidePlace.TheVariants as wide
+use Rattle.mx_flow.specs.declared.flow.BodyState.{BodyState}
 use Rattle.mx_flow.specs.declared.flow.BodyState.TheVariants as state
 use Rattle.mx_flow.specs.Laws.{WholeHasAll, OnlyGrows, IsFrontOfEach}
 use Rattle.mx_flow.proofs.DataLemmas.{data_from-nil, data_from-append, data_short, whole_data}
@@ -138,6 +139,28 @@ more_open wide.TrailerStart more = refl
 more_open wide.Trailer more = refl
 more_open wide.TrailerLf more = refl
 more_open wide.EndLf more = refl
+
+pub bad_settled : (at : WidePlace) → state_at at ≡ state.Bad → is_settled (place_of at) ≡ true
+bad_settled wide.Bad bad = refl
+bad_settled wide.Done bad = cc
+bad_settled wide.TooLarge bad = cc
+bad_settled wide.Start bad = cc
+bad_settled (wide.Size n) bad = cc
+bad_settled (wide.Extension n) bad = cc
+bad_settled (wide.SizeLf n) bad = cc
+bad_settled (wide.Data n) bad = cc
+bad_settled wide.DataCr bad = cc
+bad_settled wide.DataLf bad = cc
+bad_settled wide.TrailerStart bad = cc
+bad_settled wide.Trailer bad = cc
+bad_settled wide.TrailerLf bad = cc
+bad_settled wide.EndLf bad = cc
+
+-- before its first byte nothing is refused
+pub first_not_bad : (limit : ℕ) (framing : Framing) (came : List ℕ) (s : BodyState) → came ≡ [] → HasState limit framing came s → s ≡ state.Bad → ⊥
+first_not_bad limit framing came s none has bad =
+    let (front, last, split, live) = (subst (HasState limit framing came) bad has).1.0 in
+    omega (arith, ap length none, ap length split, length-append front (last ∷ []))
 
 -- the bytes of a whole body, where the connection ends with them
 pub whole_at_end : (limit : ℕ) (framing : Framing) (came content : List ℕ) → IsBodyOf limit framing false came content → IsBodyOf limit framing true came content

@@ -5,5 +5,6 @@ pub mod FedProofs
 pub mod ResponseProofs
 pub mod StreamProofs
 pub mod StageProofs
+pub mod WhyProofs
 pub mod OneStreamProofs
 pub mod Sends

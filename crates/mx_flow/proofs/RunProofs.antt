@@ -4,7 +4,7 @@ use Rattle.std.proofs.lemmas.List.{take_all, take_at}
 use Rattle.mx_body.specs.declared.chunked.place.ChunkedPlace.{ChunkedPlace}
 use Rattle.mx_body.specs.ChunkedPlace.{place_after, is_settled, data_left}
 use Rattle.mx_flow.specs.Steps.{place_of}
-use Rattle.mx_flow.specs.Runs.{run_data, WasGoing, HasRun}
+use Rattle.mx_flow.specs.Runs.{run_data, WasGoing, WasTakenAt, HasRun}
 use Rattle.mx_flow.specs.declared.place.WidePlace.{WidePlace}
 use Rattle.mx_flow.proofs.DataLemmas.{one_more}
 
@@ -19,9 +19,12 @@ module _ (limit : ℕ) (from : ChunkedPlace) (room : ℕ) (input : List ℕ) (at
   pub was_going : WasGoing limit from room input (read + 1)
   was_going = (read, refl, ap is_settled (sym on.leads) ∙ on.live, omega (arith, on.left_is))
 
+  pub was_taken : WasTakenAt limit from input (read + 1) (place_of at)
+  was_taken = (read, refl, on.leads)
+
   -- the next byte is one of content too many
   pub over_run : (before after : List ℕ) → after ≡ before ++ run_data limit from input read → read < length input → left ≡ 0 → 0 < data_left (place_of at)
-      → HasRun limit from room input (record { place = at; len = read + 1; room = 0; over = true }) before after
+      → HasRun limit from room input (record { place = at; before = at; len = read + 1; room = 0; over = true }) before after
   over_run before after had some full inside =
       let one = one_more limit from (place_of at) read input some on.leads inside in
       let exact : length (run_data limit from input read) ≡ room = omega (arith, on.left_is, full) in
@@ -34,15 +37,16 @@ module _ (limit : ℕ) (from : ChunkedPlace) (room : ℕ) (input : List ℕ) (at
         all = λ e live. (let both : true ≡ false = e in cc);
         last = λ e. was_going;
         settled = λ e s. (let both : true ≡ false = e in cc);
+        before_is = λ e s. (let both : true ≡ false = e in cc);
       }
 
 -- the bytes led somewhere
-pub led_run : (limit : ℕ) (from : ChunkedPlace) (room : ℕ) (input : List ℕ) (at : WidePlace) (read left : ℕ) (before after : List ℕ)
+pub led_run : (limit : ℕ) (from : ChunkedPlace) (room : ℕ) (input : List ℕ) (at last : WidePlace) (read left : ℕ) (before after : List ℕ)
     → read ≤ length input → place_of at ≡ place_after limit from (take read input) → left + length (run_data limit from input read) ≡ room
     → after ≡ before ++ run_data limit from input read → (is_settled (place_of at) ≡ false → read ≡ length input)
-    → (is_settled (place_of at) ≡ true → WasGoing limit from room input read)
-    → HasRun limit from room input (record { place = at; len = read; room = left; over = false }) before after
-led_run limit from room input at read left before after within leads left_is had all settled = record {
+    → (is_settled (place_of at) ≡ true → WasGoing limit from room input read) → (is_settled (place_of at) ≡ true → WasTakenAt limit from input read (place_of last))
+    → HasRun limit from room input (record { place = at; before = last; len = read; room = left; over = false }) before after
+led_run limit from room input at last read left before after within leads left_is had all settled taken = record {
   within = within;
   place = λ e. leads;
   room_is = λ e. left_is;
@@ -51,4 +55,5 @@ led_run limit from room input at read left before after within leads left_is had
   all = λ e live. all live;
   last = λ e. (let both : false ≡ true = e in cc);
   settled = λ e s. settled s;
+  before_is = λ e s. taken s;
 }

@@ -12,7 +12,7 @@ use Rattle.mx_flow.specs.contracts.stream.Stream as Stream
 use Rattle.mx_flow.specs.contracts.stream.Stream.TheInside as StreamInside
 
 flow_inside : IsSend FlowInside.the_field.row
-flow_inside = struct_send (shape FlowInside.the_type) (search (sendable, crosses) depth 40, (search (sendable, crosses) depth 40, (search (sendable, crosses) depth 40, (search (sendable, crosses) depth 40, (search (sendable, crosses) depth 40, (search (sendable, crosses) depth 40, tt))))))
+flow_inside = struct_send (shape FlowInside.the_type) (search (sendable, crosses) depth 40, (search (sendable, crosses) depth 40, (search (sendable, crosses) depth 40, (search (sendable, crosses) depth 40, (search (sendable, crosses) depth 40, (search (sendable, crosses) depth 40, (search (sendable, crosses) depth 40, (search (sendable, crosses) depth 40, tt))))))))
 
 flow_send : IsSend Flow.the_row
 flow_send =

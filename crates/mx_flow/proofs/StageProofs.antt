@@ -95,7 +95,7 @@ kept_heads kept came k =
       stands.1.1 ∙ ap (λ (t : List ℕ). print_heads k.interim ++ t) (append-nil (print_response k.head)),
     )
 
-kept_come : (m : Method) (kept : KeptHeads) (framing : Framing) (came : List ℕ) → AreKept kept → framing_by m kept.head ≡ Ok framing → HasCome m (kept.bytes.items ++ came) framing came
+pub kept_come : (m : Method) (kept : KeptHeads) (framing : Framing) (came : List ℕ) → AreKept kept → framing_by m kept.head ≡ Ok framing → HasCome m (kept.bytes.items ++ came) framing came
 kept_come m kept framing came k asked = record {
   interim = k.interim;
   head = k.head;
@@ -103,7 +103,7 @@ kept_come m kept framing came k asked = record {
   asked = sym (framing_agrees m kept.head k.head k.describes) ∙ asked;
 }
 
-kept_refused : (m : Method) (kept : KeptHeads) (c : Code) → AreKept kept → framing_by m kept.head ≡ Err c → HasBadFraming m kept.bytes.items c
+pub kept_refused : (m : Method) (kept : KeptHeads) (c : Code) → AreKept kept → framing_by m kept.head ≡ Err c → HasBadFraming m kept.bytes.items c
 kept_refused m kept c k asked = (k.interim, k.head, kept_stand kept k, sym (framing_agrees m kept.head k.head k.describes) ∙ asked)
 
 -- a body is that of a response

@@ -98,14 +98,14 @@ bad_body_hopeless limit m framing bytes came come none more content ended r = no
 pub headless_content : (limit : ℕ) (m : Method) (bytes : List ℕ) → (HasFinalHead bytes → ⊥) → HasContent limit m bytes []
 headless_content limit m bytes none = inr (λ framing came h. none (h.interim, h.head, came, h.stands), refl)
 
+pub none_asked : (m : Method) (bytes : List ℕ) (code : Code) → HasBadFraming m bytes code → (framing : Framing) (came : List ℕ) → HasCome m bytes framing came → ⊥
+none_asked m bytes code b framing came h =
+    let same = same_body bytes b.0 h.interim b.1 h.head [] came b.2 h.stands in
+    let both : Err code ≡ Ok framing = sym b.3 ∙ ap (framing_of m) (sym same.1) ∙ h.asked in
+    cc
+
 pub refused_content : (limit : ℕ) (m : Method) (bytes : List ℕ) (code : Code) → HasBadFraming m bytes code → HasContent limit m bytes []
-refused_content limit m bytes code b = inr (none, refl)
-  where
-    none : (framing : Framing) (came : List ℕ) → HasCome m bytes framing came → ⊥
-    none framing came h =
-        let same = same_body bytes b.0 h.interim b.1 h.head [] came b.2 h.stands in
-        let both : Err code ≡ Ok framing = sym b.3 ∙ ap (framing_of m) (sym same.1) ∙ h.asked in
-        cc
+refused_content limit m bytes code b = inr (none_asked m bytes code b, refl)
 
 -- what was handed on is a prefix of the content of each response
 pub prefix_of_each : (s : StreamValue) → IsStream s → IsPrefixOfEach s

@@ -15,6 +15,10 @@ abbrev pub WasGoing : ℕ → ChunkedPlace → ℕ → List ℕ → ℕ → Type
 WasGoing limit from room input n =
     (k : ℕ) × (n ≡ k + 1) × (is_settled (place_after limit from (take k input)) ≡ false) × (length (run_data limit from input k) ≤ room)
 
+-- so the last of n bytes was taken at this place
+abbrev pub WasTakenAt : ℕ → ChunkedPlace → List ℕ → ℕ → ChunkedPlace → Type 0
+WasTakenAt limit from input n before = (k : ℕ) × (n ≡ k + 1) × (before ≡ place_after limit from (take k input))
+
 -- the place that the bytes lead to, the room that is left, and what was handed on; where there is a byte of content too many, it is the last
 -- one taken
 pub record HasRun (limit : ℕ) (from : ChunkedPlace) (room : ℕ) (input : List ℕ) (r : Run) (before after : List ℕ) : Type 0 where
@@ -26,3 +30,4 @@ pub record HasRun (limit : ℕ) (from : ChunkedPlace) (room : ℕ) (input : List
   pub all : r.over ≡ false → is_settled (place_of r.place) ≡ false → r.len ≡ length input
   pub last : r.over ≡ true → WasGoing limit from room input r.len
   pub settled : r.over ≡ false → is_settled (place_of r.place) ≡ true → WasGoing limit from room input r.len
+  pub before_is : r.over ≡ false → is_settled (place_of r.place) ≡ true → WasTakenAt limit from input r.len (place_of r.before)

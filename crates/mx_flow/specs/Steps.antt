@@ -1,5 +1,5 @@
 -- Private: the place in a body while more of it is to come.
-use Rattle.std.specs.Prelude.{◌≡◌, ℕ, ◌+◌, ◌<◌, ◌≤◌, List, length}
+use Rattle.std.specs.Prelude.{◌≡◌, ℕ, ◌+◌, ◌-◌, ◌^◌, ◌<◌, ◌≤◌, min, List, [], ◌∷◌, ◌++◌, length}
 use Rattle.mx_head.specs.declared.types.Framing.{Framing}
 use Rattle.mx_head.specs.declared.types.Framing.TheVariants.{Empty, Counted, Chunked, Close}
 use Rattle.mx_body.specs.declared.chunked.place.ChunkedPlace.{ChunkedPlace}
@@ -11,6 +11,10 @@ use Rattle.mx_flow.specs.declared.place.WidePlace.{WidePlace}
 use Rattle.mx_flow.specs.declared.place.WidePlace.TheVariants as wide
 use Rattle.mx_flow.specs.declared.flow.BodyState.{BodyState}
 use Rattle.mx_flow.specs.declared.flow.BodyState.TheVariants as state
+
+-- the most bytes that are counted
+abbrev pub most_counted : ℕ
+most_counted = 2 ^ 64 - 1
 
 -- the same place, as the grammar's reader has it
 abbrev pub place_of : WidePlace → ChunkedPlace
@@ -35,6 +39,14 @@ IsAt limit Empty came at left = Unit {0}
 IsAt limit (Counted n) came at left = left + length came ≡ n
 IsAt limit Chunked came at left = (place_after limit place.Start came ≡ place_of at) × (left + length (data_from limit place.Start came) ≡ limit)
 IsAt limit Close came at left = left + length came ≡ limit
+
+-- before the last of the bytes they led there
+abbrev pub WasAt : ℕ → List ℕ → WidePlace → Type 0
+WasAt limit came before = (front : List ℕ) × (last : ℕ) × (came ≡ front ++ last ∷ []) × (place_of before ≡ place_after limit place.Start front)
+
+-- so many bytes came, as far as they are counted
+abbrev pub IsCounted : List ℕ → ℕ → Type 0
+IsCounted came count = count ≡ min (length came) most_counted
 
 -- what a place says of the bytes that led there
 abbrev pub state_at : WidePlace → BodyState

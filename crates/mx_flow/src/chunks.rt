@@ -13,6 +13,8 @@ use mx_types::OutOfMemory;
 #[derive(Clone, Copy)]
 pub(crate) struct Run {
     pub(crate) place: WidePlace,
+    /// The place before the last byte that it took, where that byte settles what they are.
+    pub(crate) before: WidePlace,
     /// How many bytes of the piece it took.
     pub(crate) len: usize,
     /// How many bytes of content may still come.
@@ -38,6 +40,7 @@ fn pass_run(
     ensures room { IfOk result (λ r. r.room + length (data_from limit (place_of place) (take r.len input.now)) ≡ room) }
     // what settles the bytes is one byte, so that nothing was settled before it
     ensures by_one_byte { IfOk result (λ r. is_settled (place_of r.place) ≡ true → r.len ≡ 1) }
+    ensures before { IfOk result (λ r. r.before ≡ place) }
     ensures over { IfOk result (λ r. r.over ≡ false) }
     ensures refused { OnErr result (out.new.items ≡ out.old.items) }
 {
@@ -45,6 +48,7 @@ fn pass_run(
     if left == 0 {
         return Ok(Run {
             place: place.step(limit, input[0]),
+            before: place,
             len: 1,
             room,
             over: false,
@@ -54,6 +58,7 @@ fn pass_run(
     out.extend_from_slice(&input[..n as usize])?;
     Ok(Run {
         place: behind(left, n),
+        before: place,
         len: n as usize,
         room: room - n,
         over: false,
@@ -77,12 +82,14 @@ pub(crate) fn pass_on(
 {
     let count = out.len();
     let mut place = from;
+    let mut before = from;
     let mut left = room;
     let mut read = 0;
     while read < input.len() {
         if left == 0 && place.data_left() > 0 {
             return Ok(Run {
                 place,
+                before: place,
                 len: read + 1,
                 room: 0,
                 over: true,
@@ -90,6 +97,7 @@ pub(crate) fn pass_on(
         }
         match pass_run(limit, place, left, &input[read..], out) {
             Ok(run) => {
+                before = run.before;
                 place = run.place;
                 left = run.room;
                 read += run.len;
@@ -102,6 +110,7 @@ pub(crate) fn pass_on(
         if place.is_settled() {
             return Ok(Run {
                 place,
+                before,
                 len: read,
                 room: left,
                 over: false,
@@ -110,6 +119,7 @@ pub(crate) fn pass_on(
     }
     Ok(Run {
         place,
+        before,
         len: read,
         room: left,
         over: false,

@@ -1,14 +1,17 @@
 //! A body whose bytes come in pieces.
 
-ghost use Rattle.std.specs.Prelude.{◌≡◌, ◌++◌, List, ℕ, [], true, false, IsTrue, ◌↔◌, IfOk, OnErr};
-ghost use Rattle.mx_head.specs.declared.types.Framing.TheVariants.{Counted, Chunked, Close};
+ghost use Rattle.std.specs.Prelude.{◌≡◌, ◌⊎◌, ◌≤◌, ◌++◌, List, ℕ, [], true, false, None, length, IsTrue, ◌↔◌, IfOk, IfSome, MatchOption, OnErr};
+ghost use Rattle.mx_head.specs.declared.types.Framing.TheVariants.{Empty, Counted, Chunked, Close};
+ghost use Rattle.mx_reason.specs.Faults.{chunk_fault};
 ghost use Rattle.mx_flow.specs.Flows.{IsFlow, IsBodyOf, IsFed, HasState, content_of};
 ghost use Rattle.mx_flow.specs.Steps as steps;
+ghost use Rattle.mx_flow.specs.Whys.{EndsIn, HasDefect};
 ghost use Rattle.mx_flow.specs.declared.flow.BodyState.TheVariants as state;
 
 use crate::chunks::{Run, pass_on};
 use crate::place::WidePlace;
 use mx_head::Framing;
+use mx_reason::{Cut, Defect, Fault};
 use mx_types::{History, OutOfMemory};
 use std::marker::Model;
 
@@ -32,24 +35,28 @@ pub struct Flow {
     framing: Framing,
     limit: u64,
     place: WidePlace,
+    // The place before the last byte, where that byte is the one that is refused.
+    before: WidePlace,
     // How many bytes of content may still come.
     left: u64,
     came: History<u8>,
+    count: u64,
     state: BodyState,
 }
 
 impl Model for Flow {
     ghost use Rattle.std.specs.Prelude.{◌≡◌};
     ghost use Rattle.mx_flow.specs.Flows.{FlowValue, IsFlow};
-    ghost use Rattle.mx_flow.specs.Steps.{IsAt};
-    ghost use Rattle.mx_flow.specs.declared.flow.BodyState.TheVariants.{More};
+    ghost use Rattle.mx_flow.specs.Steps.{IsAt, IsCounted, WasAt};
+    ghost use Rattle.mx_flow.specs.declared.flow.BodyState.TheVariants.{More, Bad};
 
     ghost Value = { FlowValue };
 
     ghost view = { λ f. record { framing = f.framing; limit = f.limit; came = f.came; state = f.state } };
 
     ghost invariant = { λ f. IsFlow (record { framing = f.framing; limit = f.limit; came = f.came; state = f.state })
-        × (f.state ≡ More → IsAt f.limit f.framing f.came f.place f.left) };
+        × (f.state ≡ More → IsAt f.limit f.framing f.came f.place f.left)
+        × (f.state ≡ Bad → WasAt f.limit f.came f.before) × IsCounted f.came f.count };
 }
 
 // The state that a place tells.
@@ -121,6 +128,15 @@ fn note_all(came: &mut History<u8>, bytes: &[u8])
     }
 }
 
+// Counts bytes, where so many came before, and notes them for contracts.
+fn count_all(came: &mut History<u8>, count: u64, bytes: &[u8]) -> u64
+    ensures came { came.new ≡ came.old ++ bytes.now }
+    ensures counted { steps.IsCounted came.old count → steps.IsCounted came.new result }
+{
+    note_all(came, bytes);
+    count.saturating_add(bytes.len() as u64)
+}
+
 fn is_close(framing: Framing) -> bool
     ensures { IsTrue result ↔ (framing ≡ Close) }
 {
@@ -129,6 +145,30 @@ fn is_close(framing: Framing) -> bool
         Framing::Empty => false,
         Framing::Counted(_) => false,
         Framing::Chunked => false,
+    }
+}
+
+// The part of a chunked body that a byte at this place belongs to.
+fn fault_at(place: WidePlace) -> Fault
+    ensures { result ≡ chunk_fault (steps.place_of place) }
+{
+    match place {
+        WidePlace::Start | WidePlace::Size(_) | WidePlace::Extension(_) | WidePlace::SizeLf(_) =>
+            Fault::SizeLine,
+        WidePlace::Data(_) | WidePlace::DataCr | WidePlace::DataLf => Fault::ChunkEnd,
+        _ => Fault::Trailer,
+    }
+}
+
+// Where the bytes of a body end, of which so many came and more are to come.
+fn cut_at(framing: Framing, came: usize) -> Option<Cut>
+    ensures { MatchOption result (framing ≡ Empty) (EndsIn framing came) }
+{
+    match framing {
+        Framing::Empty => None,
+        Framing::Counted(of) => Some(Cut::Counted { came, of }),
+        Framing::Chunked => Some(Cut::Chunked),
+        Framing::Close => Some(Cut::Close),
     }
 }
 
@@ -143,8 +183,10 @@ impl Flow {
             framing,
             limit,
             place: WidePlace::Start,
+            before: WidePlace::Start,
             left: first_left(framing, limit),
             came: History::new(),
+            count: 0,
             state: first_state(framing, limit),
         }
     }
@@ -155,6 +197,34 @@ impl Flow {
         ensures known { IsFlow self.now }
     {
         self.state
+    }
+
+    // How many bytes came; `None` where there are more than are counted.
+    pub(crate) fn count(&self) -> Option<u64>
+        ensures some { IfSome result (λ n. n ≡ length self.now.came) }
+        ensures none { result ≡ None → steps.most_counted ≤ length self.now.came }
+    {
+        if self.count == u64::MAX {
+            return None;
+        }
+        Some(self.count)
+    }
+
+    // What is wrong with the last byte, or where the bytes end, of which so many came. There is neither where they are whole or too large.
+    pub(crate) fn defect(&self, came: usize) -> Option<Defect>
+        requires { came ≡ length self.now.came }
+        ensures some { IfSome result (HasDefect self.now) }
+        ensures none { result ≡ None → (self.now.state ≡ state.Whole) ⊎ (self.now.state ≡ state.TooLarge) }
+    {
+        match self.state {
+            BodyState::More => match cut_at(self.framing, came) {
+                Some(cut) => Some(Defect::Cut(cut)),
+                None => unreachable!(),
+            },
+            BodyState::Bad => Some(Defect::Fault(fault_at(self.before))),
+            BodyState::Whole => None,
+            BodyState::TooLarge => None,
+        }
     }
 
     // Takes bytes, up to the last of a body whose length is known.
@@ -171,7 +241,7 @@ impl Flow {
         if self.left == 0 {
             self.state = BodyState::Whole;
         }
-        note_all(&mut self.came, taken);
+        self.count = count_all(&mut self.came, self.count, taken);
         Ok(n)
     }
 
@@ -185,7 +255,7 @@ impl Flow {
     {
         out.extend_from_slice(piece)?;
         self.left -= piece.len() as u64;
-        note_all(&mut self.came, piece);
+        self.count = count_all(&mut self.came, self.count, piece);
         Ok(piece.len())
     }
 
@@ -201,7 +271,7 @@ impl Flow {
         let n = self.left as usize;
         out.extend_from_slice(&piece[..n])?;
         self.state = BodyState::TooLarge;
-        note_all(&mut self.came, &piece[..n + 1]);
+        self.count = count_all(&mut self.came, self.count, &piece[..n + 1]);
         Ok(n + 1)
     }
 
@@ -228,9 +298,10 @@ impl Flow {
     {
         let run = pass_on(self.limit, self.place, self.left, piece, out)?;
         self.place = run.place;
+        self.before = run.before;
         self.left = run.room;
         self.state = state_of_run(&run);
-        note_all(&mut self.came, &piece[..run.len]);
+        self.count = count_all(&mut self.came, self.count, &piece[..run.len]);
         Ok(run.len)
     }
 

@@ -1,6 +1,6 @@
 //! Where the bytes of a response have led.
 
-ghost use Rattle.std.specs.Prelude.{◌≡◌, ◌≤◌, length, take, drop, Ok, IfOk, OnErr};
+ghost use Rattle.std.specs.Prelude.{◌≡◌, ◌⊎◌, ◌+◌, ◌≤◌, length, take, drop, None, Ok, IfOk, IfSome, OnErr};
 ghost use Rattle.mx_head.specs.Summary.{framing_by};
 ghost use Rattle.mx_body.specs.Steps.{HasHeadAt, IsFinalStepOn};
 ghost use Rattle.mx_body.specs.declared.heads.FinalStep.TheVariants as final;
@@ -8,13 +8,18 @@ ghost use Rattle.mx_flow.specs.Flows.{IsFed, IsFlow};
 ghost use Rattle.mx_flow.specs.Streams.{IsTaken};
 ghost use Rattle.mx_flow.specs.Stages.{AreKept, IsStage, at_stage, headless, IsTakenBehind, HasBodyEnd};
 ghost use Rattle.mx_flow.specs.declared.stage.Stage.TheVariants as stages;
+ghost use Rattle.mx_flow.specs.Steps.{most_counted};
+ghost use Rattle.mx_flow.specs.Whys.{HasDefect, HasNoWhy, IsCutWhereOpen, TellsWhy};
+ghost use Rattle.mx_flow.specs.declared.flow.BodyState.TheVariants as body;
 ghost use Rattle.mx_flow.specs.declared.stand.Stand.TheVariants as stand;
 
 use crate::flow::{BodyState, Flow};
 use crate::stand::{Stand, stand_of};
 use mx_body::{FinalStep, Heads};
 use mx_head::{Framing, Head, framing};
+use mx_reason::{Reason, reason_of};
 use mx_types::{Code, Method, OutOfMemory};
+use std::alloc::Global;
 
 /// The heads of a response, the last of which is its final head.
 #[derive(Drop)]
@@ -200,6 +205,33 @@ pub(crate) fn feed_stage(
             let taken = feed_open(&mut flow, piece, out);
             (Stage::Body(kept, flow), taken)
         }
+    }
+}
+
+// Why the bytes of a body are no whole one, behind so many bytes of heads.
+fn body_reason(len: usize, flow: &Flow) -> Option<Reason>
+    ensures some { IfSome result (λ r. (r.at ≡ len + length flow.now.came) × HasDefect flow.now r.what) }
+    ensures none { result ≡ None → (flow.now.state ≡ body.Whole) ⊎ (flow.now.state ≡ body.TooLarge) ⊎ (most_counted ≤ len + length flow.now.came) }
+{
+    let came = flow.count()? as usize;
+    let at = len.checked_add(came)?;
+    let what = flow.defect(came)?;
+    Some(Reason { at, what })
+}
+
+// rule body-stream-reason
+/// Why the bytes of a response are no whole response, as far as that is told.
+pub(crate) fn why_of(alloc: Global, method: Method, limit: u64, stage: &Stage) -> Option<Reason>
+    requires { IsStage method limit stage.now }
+    ensures some { IfSome result (TellsWhy limit method (at_stage method limit stage.now).wire) }
+    ensures cut { IfSome result (IsCutWhereOpen (at_stage method limit stage.now).stand) }
+    ensures none { result ≡ None → HasNoWhy (at_stage method limit stage.now) }
+{
+    match stage {
+        Stage::Heads(heads) => reason_of(alloc, method, heads.as_slice()),
+        Stage::BadHeads(heads, _) => reason_of(alloc, method, heads.as_slice()),
+        Stage::BadFraming(kept, _) => reason_of(alloc, method, kept.bytes.as_slice()),
+        Stage::Body(kept, flow) => body_reason(kept.bytes.as_slice().len(), flow),
     }
 }
 

@@ -4,12 +4,14 @@ ghost use Rattle.std.specs.Prelude.{◌≡◌, ◌≢◌, ◌≤◌, [], None, O
 ghost use Rattle.mx_body.specs.Decision.{HasStatus, HasLocation, TellsLocation, IsPlaceIn, bytes_at};
 ghost use Rattle.mx_flow.specs.Streams.{limit_of, first_stream, IsStream, IsTaken, IsPrefixOfEach, HasEnd, IsNoneAtEnd, TellsKeeps};
 ghost use Rattle.mx_flow.specs.Stages.{HasKept, HasNoneKept};
+ghost use Rattle.mx_flow.specs.Whys.{HasNoWhy, IsCutWhereOpen, TellsWhy};
 ghost use Rattle.mx_flow.specs.declared.stand.Stand.TheVariants as stand;
 
-use crate::stage::{KeptHeads, Stage, end_body, feed_stage};
+use crate::stage::{KeptHeads, Stage, end_body, feed_stage, why_of};
 use crate::stand::{Stand, stand_of};
 use mx_body::{Heads, Part, place_of};
 use mx_head::keeps;
+use mx_reason::Reason;
 use mx_types::{Code, Method, OutOfMemory};
 use std::alloc::Global;
 use std::marker::Model;
@@ -165,6 +167,17 @@ impl Stream {
     {
         // proof: what came is what the state says
         let _stand = self.stand();
+    }
+
+    // rule body-stream-reason
+    /// Why the bytes that came are no whole response: after how many of them that is decided, and what is wrong there; or where they end, if
+    /// nothing is decided. `None` where they are one, where the body is too large, and where more bytes came than are counted.
+    pub fn why(&self) -> Option<Reason>
+        ensures some { IfSome result (TellsWhy self.now.limit self.now.method self.now.wire) }
+        ensures cut { IfSome result (IsCutWhereOpen self.now.stand) }
+        ensures none { result ≡ None → HasNoWhy self.now }
+    {
+        why_of(self.alloc, self.method, self.limit, &self.stage)
     }
 
     // The heads, once the final head has come.

@@ -49,21 +49,24 @@ not_none (x ∷ more) a e = cc
 pub reads_none : (r : ReaderValue) (out : List ℕ) → ReadsOn r r out out
 reads_none r out = record {
   limit = refl;
+  method = refl;
   hands = record { added = []; grown = sym (append-nil r.judgement.content); handed = sym (append-nil out) };
 }
 
-pub reads_same : (old new : ReaderValue) (before after : List ℕ) → new.limit ≡ old.limit → new.judgement.content ≡ old.judgement.content → after ≡ before → ReadsOn old new before after
-reads_same old new before after limit content out = record {
+pub reads_same : (old new : ReaderValue) (before after : List ℕ) → new.limit ≡ old.limit → new.method ≡ old.method → new.judgement.content ≡ old.judgement.content → after ≡ before → ReadsOn old new before after
+reads_same old new before after limit method content out = record {
   limit = limit;
+  method = method;
   hands = record { added = []; grown = content ∙ sym (append-nil old.judgement.content); handed = out ∙ sym (append-nil before) };
 }
 
-pub reads_fed : (old new : ReaderValue) (before after : List ℕ) → new.limit ≡ old.limit → HandsOn old new before after → ReadsOn old new before after
-reads_fed old new before after limit h = record { limit = limit; hands = record { added = h.added; grown = h.grown; handed = h.handed } }
+pub reads_fed : (old new : ReaderValue) (before after : List ℕ) → new.limit ≡ old.limit → new.method ≡ old.method → HandsOn old new before after → ReadsOn old new before after
+reads_fed old new before after limit method h = record { limit = limit; method = method; hands = record { added = h.added; grown = h.grown; handed = h.handed } }
 
 pub reads_then : (old mid new : ReaderValue) (before between after : List ℕ) → ReadsOn old mid before between → ReadsOn mid new between after → ReadsOn old new before after
 reads_then old mid new before between after a b = record {
   limit = b.limit ∙ a.limit;
+  method = b.method ∙ a.method;
   hands = record {
     added = a.hands.added ++ b.hands.added;
     grown = b.hands.grown ∙ ap (λ (l : List ℕ). l ++ b.hands.added) a.hands.grown ∙ append_assoc old.judgement.content a.hands.added b.hands.added;

@@ -90,9 +90,10 @@ pub record HandsOver (was is before after : List ℕ) : Type 0 where
   pub grown : is ≡ was ++ added
   pub handed : after ≡ before ++ added
 
--- what the content has grown by was handed on
+-- the reader is of the same method and limit, and what the content has grown by was handed on
 pub record ReadsOn (old new : ReaderValue) (before after : List ℕ) : Type 0 where
   pub limit : new.limit ≡ old.limit
+  pub method : new.method ≡ old.method
   pub hands : HandsOver old.judgement.content new.judgement.content before after
 
 -- only the link has changed, by these further answers

@@ -1,5 +1,6 @@
 pub mod HeadsLemmas
 pub mod FlowingLemmas
+pub mod WhyLemmas
 pub mod FrontLemmas
 pub mod StateLemmas
 pub mod OneProofs

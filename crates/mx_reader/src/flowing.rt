@@ -1,6 +1,6 @@
 //! A reader that hands the content of a response on as it comes, and keeps the heads.
 
-ghost use Rattle.std.specs.Prelude.{◌≡◌, ◌≢◌, ◌↔◌, ◌++◌, IsTrue, [], true, None, Some, Ok, length, min, IfOk, OnErr};
+ghost use Rattle.std.specs.Prelude.{◌≡◌, ◌≢◌, ◌↔◌, ◌++◌, IsTrue, [], true, None, Some, Ok, length, min, IfOk, IfSome, OnErr};
 ghost use Rattle.mx_body.specs.Decision.{HasStatus, TellsLocation, IsPlaceIn, bytes_at};
 ghost use Rattle.mx_body.specs.Decoder.{HasVerdictCode};
 ghost use Rattle.mx_body.specs.declared.decoder.Stand.TheVariants as stand;
@@ -8,9 +8,11 @@ ghost use Rattle.mx_flow.specs.Streams.{limit_of};
 ghost use Rattle.mx_reader.specs.Readers.{IsReader, first_reader, HandsOn, IsFedBy, IsEndOf, most_counted, IsPrefixOfEach, IsWithin};
 ghost use Rattle.mx_reader.specs.Readers as spec;
 ghost use Rattle.mx_reader.specs.Flowing.{KeepsBy, stand_by};
+ghost use Rattle.mx_reader.specs.Whys.{IsReasonOf, HasNoReason};
 
 use mx_body::{Part, Stand};
 use mx_flow::{Stand as StreamStand, Stream};
+use mx_reason::Reason;
 use mx_types::{History, Method, OutOfMemory};
 use std::alloc::Global;
 use std::marker::Model;
@@ -213,6 +215,19 @@ impl FlowingReader {
         ensures { result.now ≡ self.now.kept }
     {
         self.stream.heads()
+    }
+
+    pub(crate) fn why(&self) -> Option<Reason>
+        ensures some { IfSome result (IsReasonOf self.now) }
+        ensures none { result ≡ None → HasNoReason self.now }
+        ensures whole { self.now.judgement.stand ≡ stand.Complete → result ≡ None }
+    {
+        if self.stand == Stand::Complete {
+            return None;
+        }
+        // proof: what the stream has is what its bytes say
+        self.stream.know();
+        self.stream.why()
     }
 
     // There are no parts.

@@ -1,6 +1,6 @@
 //! A reader of one response.
 
-ghost use Rattle.std.specs.Prelude.{◌≡◌, ◌≢◌, ◌↔◌, IsTrue, [], true, None, Some, Ok, length, min, IfOk, OnErr};
+ghost use Rattle.std.specs.Prelude.{◌≡◌, ◌≢◌, ◌↔◌, IsTrue, [], true, None, Some, Ok, length, min, IfOk, IfSome, OnErr};
 ghost use Rattle.mx_body.specs.Parts.{AreOrdered};
 ghost use Rattle.mx_body.specs.Decision.{HasStatus, TellsLocation, IsPlaceIn, bytes_at, BeginsWithParts};
 ghost use Rattle.mx_body.specs.Decoder.{HasVerdictCode};
@@ -8,9 +8,11 @@ ghost use Rattle.mx_body.specs.declared.decoder.Stand.TheVariants as stand;
 ghost use Rattle.mx_flow.specs.Streams.{limit_of};
 ghost use Rattle.mx_reader.specs.Readers.{IsReader, first_reader, HandsOn, IsFedBy, IsEndOf, most_counted, IsPrefixOfEach, IsWithin};
 ghost use Rattle.mx_reader.specs.Readers as spec;
+ghost use Rattle.mx_reader.specs.Whys.{IsReasonOf, HasNoReason};
 
 use crate::flowing::FlowingReader;
 use mx_body::{Decoder, Part, Stand};
+use mx_reason::Reason;
 use mx_types::{Method, OutOfMemory};
 use std::alloc::Global;
 use std::marker::Model;
@@ -176,6 +178,20 @@ impl Reader {
         match &self.kind {
             Kind::Held(decoder) => decoder.location(),
             Kind::Flowing(reader) => reader.location(),
+        }
+    }
+
+    /// Why the bytes fed are no whole response, where its content is handed on: after how many of them that is decided, and what is wrong
+    /// there; or where they end, if nothing is decided. `None` where they are one, where the body is too large, and where more bytes came
+    /// than are counted; and of a response that is held, which `reason_of` of `mx_reason` tells.
+    pub fn why(&self) -> Option<Reason>
+        ensures some { IfSome result (IsReasonOf self.now) }
+        ensures none { result ≡ None → HasNoReason self.now }
+        ensures whole { self.now.judgement.stand ≡ stand.Complete → result ≡ None }
+    {
+        match &self.kind {
+            Kind::Held(_) => None,
+            Kind::Flowing(reader) => reader.why(),
         }
     }
 

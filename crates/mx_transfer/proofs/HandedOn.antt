@@ -1,6 +1,7 @@
 -- All content that was handed on, at each turn and at the end of a transfer.
-use Rattle.std.proofs.Common.{◌≡◌, ◌≢◌, ◌↔◌, ℕ, Bool, List, [], ◌++◌, ◌∙◌, sym, ap, subst, append_assoc, Option, Some, None, true, false, refl}
-use Rattle.std.specs.Prelude.{IfSome}
+use Rattle.std.proofs.Common.{◌≡◌, ◌≢◌, ◌↔◌, ℕ, Bool, List, [], ◌∷◌, ◌++◌, ◌∙◌, sym, ap, subst, append_assoc, Option, Some, None, true, false, refl}
+use Rattle.std.specs.Prelude.{IfSome, IfErr, Result, Ok, Err}
+use Rattle.mx_request.specs.Request.{RequestValue}
 use Rattle.mx_types.specs.declared.code.Code.{Code}
 use Rattle.mx_types.specs.declared.code.Code.TheVariants as code
 use Rattle.mx_flow.specs.Streams.{limit_of}
@@ -9,7 +10,7 @@ use Rattle.mx_line.specs.Lines.{HandsOver}
 use Rattle.mx_sink.specs.Sinks.{is_sink_code}
 use Rattle.mx_chain.specs.Chains.{ChainState}
 use Rattle.mx_chain.specs.Outcomes.{OutcomeValue, EndsAs, limit_by, settled, settled_code}
-use Rattle.mx_transfer.specs.Deliveries.{IsHandedTo, MakesRoom, has_none, has_failed}
+use Rattle.mx_transfer.specs.Deliveries.{begun_for, IsHandedTo, MakesRoom, has_none, has_failed}
 
 -- what was handed on before and in a turn is what the delivery was handed before and then all that is there
 pub handed_on : (content is rest more handed : List ℕ) → content ≡ handed ++ rest → HandsOver content is rest more → is ≡ handed ++ more
@@ -55,3 +56,19 @@ flowing_is flows room held none = λ e. let x : true ≡ false = sym (held e) �
 -- the failure of a delivery is no deadline
 not_late : (f : Code) → is_sink_code f ≡ true → f ≡ code.OperationTimedout → ⊥
 not_late f sinks e = let x : false ≡ true = sym (ap is_sink_code e) ∙ sinks in cc
+
+-- a transfer begins with no content
+pub begins_empty : (L : Type 0) (flows : Option (Option ℕ)) (request : RequestValue) → (begun_for {L = L} flows request).content ≡ []
+begins_empty L None request = refl
+begins_empty L (Some most_bytes) request = refl
+
+-- nothing was handed to a delivery where there is no content
+nothing_before : (content handed rest : List ℕ) → content ≡ [] → content ≡ handed ++ rest → handed ≡ []
+nothing_before content [] rest none is = refl
+nothing_before content (x ∷ handed) rest none is = absurd (let both : [] ≡ x ∷ (handed ++ rest) = sym none ∙ is in cc)
+
+-- so of one that comes back
+pub none_handed : {A E : Type 0} (handed : E → List ℕ) (content : List ℕ) (r : Result A E) → content ≡ [] → IfErr r (λ e. (rest : List ℕ) × (content ≡ handed e ++ rest))
+    → IfErr r (λ e. handed e ≡ [])
+none_handed handed content (Ok value) none back = back
+none_handed handed content (Err e) none back = nothing_before content (handed e) back.0 none back.1

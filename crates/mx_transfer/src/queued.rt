@@ -1,5 +1,5 @@
 //! A transfer that waits for a worker.
-ghost use Rattle.std.specs.Prelude.{◌≡◌, [], None, true, false, IfOk, IfErr};
+ghost use Rattle.std.specs.Prelude.{◌≡◌, ◌++◌, ℕ, List, [], None, true, false, IfOk, IfErr};
 ghost use Rattle.mx_transfer.specs.Deliveries.{begun_for};
 
 use crate::transfers::Transfer;
@@ -89,6 +89,7 @@ impl<L: Link, D: Delivery> Queued<L, D> {
         ensures chain { IfOk result (λ q. q.chain ≡ begun_for (D.flows delivery) request) }
         ensures request { IfOk result (λ q. q.chain.request ≡ request) }
         ensures refused { IfErr result (λ e. e.value.0 ≡ request) }
+        ensures back { IfErr result (λ e. D.handed e.value.1 ≡ []) }
     {
         Queued::boxed(alloc, Transfer::delivering(alloc, request, delivery))
     }
@@ -101,6 +102,7 @@ impl<L: Link, D: Delivery> Queued<L, D> {
         requires { transfer.chain.code ≡ None }
         ensures same { IfOk result (λ q. q ≡ transfer) }
         ensures refused { IfErr result (λ e. e.value.0 ≡ transfer.chain.request) }
+        ensures back { IfErr result (λ e. (rest : List ℕ) × (transfer.chain.content ≡ D.handed e.value.1 ++ rest)) }
     {
         match Box::new(alloc, transfer) {
             Ok(transfer) => Ok(Queued { transfer }),
@@ -114,8 +116,18 @@ impl<L: Link, D: Delivery> Queued<L, D> {
     pub fn into_request(self) -> Request
         ensures { result ≡ self.chain.request }
     {
+        let (request, delivery) = self.into_parts();
+        drop(delivery);
+        request
+    }
+
+    /// The request and the delivery, by move. A link that serves the request is dropped.
+    pub fn into_parts(self) -> (Request, D)
+        ensures request { result.0 ≡ self.chain.request }
+        ensures handed { (rest : List ℕ) × (self.chain.content ≡ D.handed result.1 ++ rest) }
+    {
         let Queued { transfer } = self;
-        Box::into_inner(transfer).into_request()
+        Box::into_inner(transfer).into_parts()
     }
 
     /// A transfer that a worker has claimed and polled, to be given back. It has not ended.

@@ -138,13 +138,15 @@ pub(super) fn end(
     ensures answers { result.answers ≡ answers.value }
     ensures reused { result.is_reused ≡ is_reused.value }
 {
-    // proof: what holds of a request
+    // proof: what holds of a request, and of a reader
     request.know();
+    reader.know();
+    let why = reader.why();
     let status = reader.status();
     let location = reader.location();
     let read = Snapshot::of(&reader);
     let (kept, parts) = reader.into_parts();
     Hop::new(
-        request, read, kept, code, status, parts, location, answers, is_reused,
+        request, read, kept, code, status, parts, location, why, answers, is_reused,
     )
 }

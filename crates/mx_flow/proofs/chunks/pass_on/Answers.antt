@@ -1,11 +1,12 @@
 use Rattle.std.proofs.Common.{◌≡◌, ◌+◌, ◌++◌, ℕ, true, false, length, sym, ap, subst, ◌∙◌, arith, rules}
 use Rattle.std.proofs.lemmas.List.{append-nil, take_rest, length-drop}
+use Rattle.mx_body.specs.declared.chunked.place.ChunkedPlace.{ChunkedPlace}
 use Rattle.mx_body.specs.ChunkedPlace.{is_settled}
 use Rattle.mx_body.proofs.ChunkedRun.{place_after-nil}
 use Rattle.mx_flow.specs.Steps.{place_of}
-use Rattle.mx_flow.specs.Runs.{WasGoing}
+use Rattle.mx_flow.specs.Runs.{WasGoing, WasTakenAt}
 use Rattle.mx_flow.proofs.DataLemmas.{data_from-nil, led_on, handed_on, room_on}
-use Rattle.mx_flow.proofs.RunProofs.{was_going, over_run, led_run}
+use Rattle.mx_flow.proofs.RunProofs.{was_going, was_taken, over_run, led_run}
 use Rattle.mx_flow.proofs.chunks.pass_on.Goals as goal
 
 pub loop-read-init : goal.loop-read-init
@@ -37,7 +38,7 @@ returns-then-is_settled-clause-run c =
     let input = c.args.input.now in
     let ends : is_settled (place_of run.place) ≡ true = sym c.is_settled.ensures ∙ c.if-is_settled.true in
     let long = ap length (take_rest input l.read) ∙ length-drop l.read input in
-    led_run c.args.limit p c.args.room input run.place (l.read + run.len) run.room c.args.out.now.items c.pass_run.new.out.items
+    led_run c.args.limit p c.args.room input run.place run.before (l.read + run.len) run.room c.args.out.now.items c.pass_run.new.out.items
     (omega (arith, on.within, c.in-Ok.ensures.within, long))
     (led_on c.args.limit input p l.read run.len (place_of l.place) (place_of run.place) on.leads c.in-Ok.ensures.place)
     (room_on c.args.limit input p l.read run.len (place_of l.place) c.args.room l.left run.room on.leads on.left_is c.in-Ok.ensures.room)
@@ -45,6 +46,9 @@ returns-then-is_settled-clause-run c =
     (λ live. (let both : true ≡ false = sym ends ∙ live in absurd (cc)))
     (λ settled. subst (λ (n : ℕ). WasGoing c.args.limit p c.args.room input (l.read + n)) (sym (c.in-Ok.ensures.by_one_byte ends))
     (was_going c.args.limit p c.args.room input l.place l.read l.left on))
+    (λ settled. subst (λ (at : ChunkedPlace). WasTakenAt c.args.limit p input (l.read + run.len) at) (ap place_of (sym c.in-Ok.ensures.before))
+    (subst (λ (n : ℕ). WasTakenAt c.args.limit p input (l.read + n) (place_of l.place)) (sym (c.in-Ok.ensures.by_one_byte ends))
+    (was_taken c.args.limit p c.args.room input l.place l.read l.left on)))
 
 pub loop-read-preserved : goal.loop-read-preserved
 loop-read-preserved c =

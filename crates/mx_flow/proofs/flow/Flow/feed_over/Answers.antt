@@ -13,8 +13,12 @@ invariant_of-self c =
     let room = close_left f.limit f.framing f.came f.place f.left is (c.self.invariant.1 going) in
     let over : f.left < length c.args.piece.now =
     omega (arith, room, ap (λ (v : FlowValue). v.limit) c.self.view_is, ap (λ (v : FlowValue). length v.came) c.self.view_is, c.requires.over) in
-    let ends = close_ends f.limit f.framing f.came c.args.piece.now c.note_all.new.came f.left is c.note_all.ensures room over in
-    (ends.0, λ more. (let both : state.TooLarge ≡ state.More = more in cc))
+    let ends = close_ends f.limit f.framing f.came c.args.piece.now c.count_all-self-inside.new.came f.left is c.count_all-self-inside.ensures.came room over in (
+      ends.0,
+      λ more. (let both : state.TooLarge ≡ state.More = more in cc),
+      λ bad. absurd (let both : state.TooLarge ≡ state.Bad = bad in cc),
+      c.count_all-self-inside.ensures.counted c.self.invariant.3,
+    )
 
 pub returns-clause-fed : goal.returns-clause-fed
 returns-clause-fed c =
@@ -24,10 +28,10 @@ returns-clause-fed c =
     let room = close_left f.limit f.framing f.came f.place f.left is (c.self.invariant.1 going) in
     let over : f.left < length c.args.piece.now =
     omega (arith, room, ap (λ (v : FlowValue). v.limit) c.self.view_is, ap (λ (v : FlowValue). length v.came) c.self.view_is, c.requires.over) in
-    let ends = close_ends f.limit f.framing f.came c.args.piece.now c.note_all.new.came f.left is c.note_all.ensures room over in
+    let ends = close_ends f.limit f.framing f.came c.args.piece.now c.count_all-self-inside.new.came f.left is c.count_all-self-inside.ensures.came room over in
     record {
       within = omega (arith, over);
-      came = rw (← c.self.view_is) (rw c.note_all.ensures refl);
+      came = rw (← c.self.view_is) (rw c.count_all-self-inside.ensures.came refl);
       all = λ more. (let both : state.TooLarge ≡ state.More = more in cc);
       added = take f.left c.args.piece.now;
       handed = c.in_ok-extend_from_slice.ensures.items;

@@ -51,22 +51,22 @@ pub returns-else-may_retry-2-clause-handed : goal.returns-else-may_retry-2-claus
 returns-else-may_retry-2-clause-handed g c = reads_none _ _
 
 pub returns-in-Ok-More-clause-handed : goal.returns-in-Ok-More-clause-handed
-returns-in-Ok-More-clause-handed g c = reads_fed _ _ _ _ (ap (λ (r : ReaderValue). r.limit) (c.in-Ok-More.ensures.fed c.requires.going.more)) c.in-Ok-More.ensures.handed
+returns-in-Ok-More-clause-handed g c = reads_fed _ _ _ _ (ap (λ (r : ReaderValue). r.limit) (c.in-Ok-More.ensures.fed c.requires.going.more)) (ap (λ (r : ReaderValue). r.method) (c.in-Ok-More.ensures.fed c.requires.going.more)) c.in-Ok-More.ensures.handed
 
 pub returns-in-Ok-Complete-clause-handed : goal.returns-in-Ok-Complete-clause-handed
-returns-in-Ok-Complete-clause-handed g c = reads_fed _ _ _ _ (ap (λ (r : ReaderValue). r.limit) (c.in-Ok-Complete.ensures.fed c.requires.going.more)) c.in-Ok-Complete.ensures.handed
+returns-in-Ok-Complete-clause-handed g c = reads_fed _ _ _ _ (ap (λ (r : ReaderValue). r.limit) (c.in-Ok-Complete.ensures.fed c.requires.going.more)) (ap (λ (r : ReaderValue). r.method) (c.in-Ok-Complete.ensures.fed c.requires.going.more)) c.in-Ok-Complete.ensures.handed
 
 pub returns-in-Ok-Fault-clause-handed : goal.returns-in-Ok-Fault-clause-handed
-returns-in-Ok-Fault-clause-handed g c = reads_fed _ _ _ _ (ap (λ (r : ReaderValue). r.limit) (c.in-Ok-Fault.ensures.fed c.requires.going.more)) c.in-Ok-Fault.ensures.handed
+returns-in-Ok-Fault-clause-handed g c = reads_fed _ _ _ _ (ap (λ (r : ReaderValue). r.limit) (c.in-Ok-Fault.ensures.fed c.requires.going.more)) (ap (λ (r : ReaderValue). r.method) (c.in-Ok-Fault.ensures.fed c.requires.going.more)) c.in-Ok-Fault.ensures.handed
 
 pub returns-in-Err-clause-handed : goal.returns-in-Err-clause-handed
-returns-in-Err-clause-handed g c = let same = c.in-Err.ensures.refused in reads_same _ _ _ _ (ap (λ (r : ReaderValue). r.limit) same.0) (ap (λ (r : ReaderValue). r.judgement.content) same.0) same.1
+returns-in-Err-clause-handed g c = let same = c.in-Err.ensures.refused in reads_same _ _ _ _ (ap (λ (r : ReaderValue). r.limit) same.0) (ap (λ (r : ReaderValue). r.method) same.0) (ap (λ (r : ReaderValue). r.judgement.content) same.0) same.1
 
 pub returns-in-Ok-Complete-end-clause-handed : goal.returns-in-Ok-Complete-end-clause-handed
-returns-in-Ok-Complete-end-clause-handed g c = reads_same _ _ _ _ (ap (λ (r : ReaderValue). r.limit) (c.in-Ok-Complete-end.ensures.ended c.requires.going.more)) c.in-Ok-Complete-end.ensures.handed refl
+returns-in-Ok-Complete-end-clause-handed g c = reads_same _ _ _ _ (ap (λ (r : ReaderValue). r.limit) (c.in-Ok-Complete-end.ensures.ended c.requires.going.more)) (ap (λ (r : ReaderValue). r.method) (c.in-Ok-Complete-end.ensures.ended c.requires.going.more)) c.in-Ok-Complete-end.ensures.handed refl
 
 pub returns-in-Ok-Fault-end-clause-handed : goal.returns-in-Ok-Fault-end-clause-handed
-returns-in-Ok-Fault-end-clause-handed g c = reads_same _ _ _ _ (ap (λ (r : ReaderValue). r.limit) (c.in-Ok-Fault-end.ensures.ended c.requires.going.more)) c.in-Ok-Fault-end.ensures.handed refl
+returns-in-Ok-Fault-end-clause-handed g c = reads_same _ _ _ _ (ap (λ (r : ReaderValue). r.limit) (c.in-Ok-Fault-end.ensures.ended c.requires.going.more)) (ap (λ (r : ReaderValue). r.method) (c.in-Ok-Fault-end.ensures.ended c.requires.going.more)) c.in-Ok-Fault-end.ensures.handed refl
 
 pub returns-in-Err-end-clause-handed : goal.returns-in-Err-end-clause-handed
-returns-in-Err-end-clause-handed g c = let same = c.in-Err-end.ensures.refused in reads_same _ _ _ _ (ap (λ (r : ReaderValue). r.limit) same) (ap (λ (r : ReaderValue). r.judgement.content) same) refl
+returns-in-Err-end-clause-handed g c = let same = c.in-Err-end.ensures.refused in reads_same _ _ _ _ (ap (λ (r : ReaderValue). r.limit) same) (ap (λ (r : ReaderValue). r.method) same) (ap (λ (r : ReaderValue). r.judgement.content) same) refl
