@@ -63,6 +63,10 @@ pub trait Folder: Drop {
     fn remove(&mut self, part: Self::Part) -> Result<(), FolderError>
         ensures { steps self.new ≡ done result (Removed (Self.Part.value part).name) ∷ (told_of (Self.Part.value part) ++ steps self.old) };
 
+    /// Removes a part of this folder that was dropped, by its name. Nothing is known of what that has.
+    fn remove_dropped(&mut self, part: &PartName) -> Result<(), FolderError>
+        ensures { steps self.new ≡ done result (Removed part.now) ∷ steps self.old };
+
     /// Looks up what is under a name. A link isn't followed.
     fn look(&mut self, name: &FileName) -> Result<Kind, FolderError>
         ensures { steps self.new ≡ looked result name.now ∷ steps self.old };

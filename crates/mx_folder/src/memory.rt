@@ -369,6 +369,16 @@ impl Folder for MemoryFolder {
         self.act(Done::Removed(part.name))
     }
 
+    fn remove_dropped(&mut self, part: &PartName) -> Result<(), FolderError> {
+        match copied(self.alloc, part.as_str().as_bytes()) {
+            Ok(name) => self.act(Done::Removed(name)),
+            Err(error) => {
+                let step = Step::Removed(bytes_of(part.as_str().as_bytes()));
+                Err(self.refuse(step, error))
+            }
+        }
+    }
+
     fn look(&mut self, name: &FileName) -> Result<Kind, FolderError>
         ensures told { self.new ≡ spec.looked result name.now ∷ self.old }
         ensures kind { IfOk result (λ kind. kind ≡ kind_of (file none self.old name.now)) }

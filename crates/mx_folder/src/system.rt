@@ -214,6 +214,16 @@ fn rename_part<R: Files>(
     fs::rename(files, path, to.as_str()).map_err(reason)
 }
 
+fn remove_at<R: Files>(
+    alloc: Global,
+    files: &R,
+    folder: &str,
+    part: &str,
+) -> Result<(), FolderError> {
+    let path = path_in(alloc, folder, part)?;
+    fs::remove_file(files, path.as_str()).map_err(reason)
+}
+
 fn kind_at<R: Files>(
     alloc: Global,
     files: &R,
@@ -340,6 +350,13 @@ impl<'a, R: Files> Folder for SystemFolder<'a, R> {
         self.take_back(&mut part);
         let removed = fs::remove_file(self.files, part.path.as_str()).map_err(reason);
         self.steps.note(done(&removed, Step::Removed(bytes_of(part.name.as_bytes()))));
+        removed
+    }
+
+    // rule file-no-part-left
+    fn remove_dropped(&mut self, part: &PartName) -> Result<(), FolderError> {
+        let removed = remove_at(self.alloc, self.files, self.path.as_str(), part.as_str());
+        self.steps.note(done(&removed, Step::Removed(bytes_of(part.as_str().as_bytes()))));
         removed
     }
 

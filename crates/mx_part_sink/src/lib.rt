@@ -1,4 +1,4 @@
-//! A sink that writes the content of a body to a part of a folder, while it comes.
+//! A sink that writes the content of a body to a part of a folder as it comes.
 #![tactic(auto)]
 
 mod part_sink;

@@ -1,9 +1,9 @@
-//! The sink.
+//! A sink that writes to a part.
 ghost use Rattle.std.specs.Prelude.{◌≡◌, ◌<◌, ◌≤◌, true, [], ◌++◌, length, Some, None, option_map, if◌then◌else◌, IfOk, IfErr, OnOk, OnErr};
 ghost use Rattle.mx_folder.specs.declared.errors.FolderError.{FolderError as Why};
 ghost use Rattle.mx_folder.specs.Parts.{empty_part};
 ghost use Rattle.mx_sink.specs.Sinks.{taken};
-ghost use Rattle.mx_part_sink.specs.PartSinks.{got_of, empty_sink, part_of, part_with, told_as, IsUnfinished, IsAsItWas};
+ghost use Rattle.mx_part_sink.specs.PartSinks.{got_of, empty_sink, most_gathered, part_of, part_with, told_as, IsUnfinished, IsAsItWas};
 
 use crate::write::{append_until, told_as};
 use mx_folder::{FolderError, PartFile};
@@ -11,14 +11,14 @@ use mx_sink::{Sink, SinkError};
 use std::alloc::Global;
 use std::marker::Model;
 
-// How many bytes are gathered for a write.
+// How many bytes are gathered at most.
 const GATHERED: usize = 65_536;
 
-/// A sink that writes to a part of a folder. Pieces below 64 KiB are gathered for a write, up to 64 KiB; a larger one is written as it is.
-/// Where memory to gather a piece is refused, it is written by itself. No clause says how many writes there are.
+/// A sink that writes to a part of a folder. It gathers small pieces, so that the part gets fewer writes: at most 65,536 of the bytes that it
+/// took aren't written yet ([`know`](PartSink::know)). No clause says how many writes there are.
 ///
-/// It always has room. Once the part refuses a write, each further `put` fails with the same code, and nothing more is written. One that is
-/// dropped leaves its part in its folder, without what is gathered.
+/// It always has room, and a `put` fails only if the part refuses a write. Once a write is refused, each further `put` fails with the same code,
+/// and nothing more is written. [`finish`](PartSink::finish) writes what is gathered; a sink that is dropped doesn't.
 #[derive(Drop)]
 pub struct PartSink<P: PartFile> {
     part: P,
@@ -30,7 +30,7 @@ pub struct PartSink<P: PartFile> {
 
 impl<P: PartFile> Model for PartSink<P> {
     ghost use Rattle.std.specs.Prelude.{◌≡◌, ◌≤◌, false, drop, length};
-    ghost use Rattle.mx_part_sink.specs.PartSinks.{PartSinkValue, refused_by};
+    ghost use Rattle.mx_part_sink.specs.PartSinks.{PartSinkValue, most_gathered, refused_by};
 
     ghost Value = { PartSinkValue };
 
@@ -43,22 +43,23 @@ impl<P: PartFile> Model for PartSink<P> {
 
     ghost invariant = { λ s. record {
       within : s.start ≤ length s.buffer.items;
+      few : length s.buffer.items ≤ most_gathered;
       unflushed : (P.value s.part).flushed ≡ false;
       refused : (P.value s.part).refused ≡ refused_by s.failure;
     } };
 }
 
-/// A part that refused a write: the part, to be removed, and why it did.
+/// A part that refused a write, and why. The part is to be removed.
 #[derive(Drop)]
 pub struct Unfinished<P> {
-    /// The part, which has a prefix of what its sink took.
+    /// The part, which has a prefix of the bytes that its sink took.
     pub part: P,
     /// Why the part refused a write.
     pub error: FolderError,
 }
 
 impl<P: PartFile> PartSink<P> {
-    /// A sink for a part that was just made.
+    /// A sink for a new part, which is empty.
     pub fn new(alloc: Global, part: P) -> PartSink<P>
         requires { P.value part ≡ empty_part (P.value part).name }
         ensures { result ≡ empty_sink (P.value part).name }
@@ -71,7 +72,15 @@ impl<P: PartFile> PartSink<P> {
         }
     }
 
-    // Gathers a piece, where there is room and memory for it.
+    /// What holds of every sink. It does nothing: a call gives its caller's proof the law.
+    pub fn know(&self)
+        ensures { length self.now.gathered ≤ most_gathered }
+    {
+        // proof: what holds of a sink
+        let _start = self.start;
+    }
+
+    // Gathers a piece if there is room and memory for it. Returns whether it did.
     fn hold(&mut self, bytes: &[u8]) -> bool
         ensures { self.new ≡ (if result then record self.old { gathered = self.old.gathered ++ bytes.now } else self.old) }
     {
@@ -82,7 +91,7 @@ impl<P: PartFile> PartSink<P> {
         self.buffer.extend_from_slice(bytes).is_ok()
     }
 
-    // Writes what is gathered.
+    // Writes the gathered bytes.
     fn drain(&mut self) -> Result<(), SinkError>
         requires { self.old.failure ≡ None }
         ensures name { self.new.name ≡ self.old.name }
@@ -106,7 +115,7 @@ impl<P: PartFile> PartSink<P> {
         }
     }
 
-    // Writes some of these bytes, where none are gathered.
+    // Writes a prefix of these bytes, where none are gathered. Returns how many it wrote.
     fn write(&mut self, bytes: &[u8]) -> Result<usize, SinkError>
         requires sound { self.old.failure ≡ None }
         requires none { self.old.gathered ≡ [] }
@@ -126,7 +135,7 @@ impl<P: PartFile> PartSink<P> {
         }
     }
 
-    // Writes what is gathered, unless a write was refused before.
+    // Writes the gathered bytes, unless a write was refused before.
     fn close(&mut self)
         ensures name { self.new.name ≡ self.old.name }
         ensures got { got_of self.new ≡ got_of self.old }
@@ -139,7 +148,7 @@ impl<P: PartFile> PartSink<P> {
         }
     }
 
-    /// The part, as it is: what is gathered isn't written. This is for a part that is to be removed.
+    /// The part as it is, for a part that is to be removed: the gathered bytes are dropped.
     pub fn into_part(self) -> P
         ensures { P.value result ≡ part_of self }
     {
@@ -158,10 +167,10 @@ impl<P: PartFile> PartSink<P> {
         }
     }
 
-    /// Writes what is gathered, and hands the part back, which has all that the sink took. It isn't flushed.
+    /// Writes the gathered bytes, and returns the part, which then has all bytes that the sink took. The part isn't flushed.
     ///
-    /// An error comes only where the part refuses a write, or refused one before, and then nothing is tried again. It hands the part back,
-    /// which has a prefix of what the sink took.
+    /// Fails if the part refuses a write. It also fails if the part refused one before, with the same error, and then writes nothing. The error
+    /// has the part, which has a prefix of the bytes that the sink took.
     pub fn finish(mut self) -> Result<P, Unfinished<P>>
         ensures whole { IfOk result (λ part. P.value part ≡ part_with self.name (got_of self) None) }
         ensures sound { OnOk result (self.failure ≡ None) }
@@ -187,7 +196,7 @@ impl<P: PartFile> Sink for PartSink<P> {
         true
     }
 
-    /// Takes all of a piece that is gathered, and of another as many bytes as one write does.
+    /// Takes a prefix of the bytes: all of them if they are gathered, and else as many as one write takes.
     fn put(&mut self, bytes: &[u8]) -> Result<usize, SinkError>
         requires { 0 < length bytes.now }
         ensures got { got_of self.new ≡ got_of self.old ++ taken result bytes.now }

@@ -5,7 +5,7 @@ ghost use Rattle.mx_part_sink.specs.PartSinks.{refused_by, told_as};
 use mx_folder::{FolderError, PartFile};
 use mx_sink::SinkError;
 
-// The code of a write that was refused for this.
+// The sink's error for a write that the part refused with this one.
 pub(crate) fn told_as(error: FolderError) -> SinkError
     ensures { result ≡ told_as error }
 {
@@ -15,8 +15,8 @@ pub(crate) fn told_as(error: FolderError) -> SinkError
     }
 }
 
-// Writes these bytes at the end of a part, until a write is refused. The answer is how many it took, and why the next write was refused: it
-// took all of them where none was.
+// Writes these bytes at the end of a part, until a write is refused. Returns how many bytes the part took, and why the next write was refused.
+// The part took all of them if none was.
 pub(crate) fn append_until<P: PartFile>(part: &mut P, bytes: &[u8]) -> (usize, Option<FolderError>)
     requires { (P.value part.old).flushed ≡ false }
     ensures bytes { (P.value part.new).bytes ≡ (P.value part.old).bytes ++ take result.0 bytes.now }

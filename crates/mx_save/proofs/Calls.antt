@@ -1,5 +1,5 @@
 -- What calls of a folder leave, one after the other.
-use Rattle.std.proofs.Common.{◌≡◌, ◌≢◌, ℕ, ◌≤◌, ◌<◌, ◌+◌, ◌*◌, length, List, [], ◌∷◌, ◌++◌, Result, Bool, Option, Some, None, refl, ap, sym, subst, ◌∙◌, arith, append_assoc}
+use Rattle.std.proofs.Common.{◌≡◌, ◌≢◌, ℕ, ◌≤◌, ◌<◌, ◌+◌, length, List, [], ◌∷◌, ◌++◌, Result, Bool, Option, Some, None, refl, ap, sym, subst, ◌∙◌, arith}
 use Rattle.std.proofs.lemmas.List.{length-append}
 use Rattle.mx_file_name.specs.Safe.{IsPartName}
 use Rattle.mx_folder.specs.declared.errors.FolderError.{FolderError}
@@ -10,13 +10,12 @@ use Rattle.mx_folder.specs.declared.steps.Step.TheVariants.{Created, Placed, Rem
 use Rattle.mx_folder.specs.Parts.{PartValue, told, told_of}
 use Rattle.mx_folder.specs.Steps.{done, refusals, refused_calls}
 use Rattle.mx_folder.specs.Moments.{AtEachMoment}
-use Rattle.mx_folder.proofs.Told.{calls_told}
-use Rattle.mx_save.specs.Bodies.{FilesAreKept, IsGone, IsOnlyPart, IsBeforeOrAfter, LeavesOnly, left_of}
-use Rattle.mx_save.specs.Tries.{call_of, refusal_of, removal_of, removed_by}
+use Rattle.mx_save.specs.Bodies.{FilesAreKept, IsGone, IsOnlyPart, IsBeforeOrAfter, left_of}
+use Rattle.mx_save.specs.Tries.{refusal_of, removal_of, removed_by}
 use Rattle.mx_save.specs.declared.error.SaveError.{SaveError}
 use Rattle.mx_save.specs.declared.error.SaveError.TheVariants as error
 use Rattle.mx_save.proofs.Moments.{at_once, weaker, one_more}
-use Rattle.mx_save.proofs.Steps.{only_now, only_done, only_created, only_removed, before_or_after_placed, only_is_before, kept_from_only, gone_removed, leaves}
+use Rattle.mx_save.proofs.Steps.{only_now, only_done, only_created, only_removed, before_or_after_placed, only_is_before, kept_from_only, gone_removed}
 
 abbrev pub PartMoments : List ℕ → List Step → List Step → Type 0
 PartMoments part old new = AtEachMoment (IsOnlyPart part old) old new
@@ -52,9 +51,16 @@ part_removed left part v old between new before is e =
     part_step part old (told_of v ++ between) new (removed_by left part) (part_told part v.name v.refused old between before)
     (e ∙ ap (λ n. removed_by left n ∷ (told_of v ++ between)) is) (λ h. only_removal left part old (told_of v ++ between) h)
 
-pub part_refused : (asked : FolderCall) (name : List ℕ) (error : FolderError) (part : List ℕ) (old between new : List Step) → PartMoments part old between
-    → new ≡ Refused asked name error ∷ between → PartMoments part old new
-part_refused asked name error part old between new before e = part_step part old between new (Refused asked name error) before e (λ h. h)
+-- nothing was done yet
+pub nothing_yet : (part : List ℕ) (old : List Step) → PartMoments part old old
+nothing_yet part old = at_once (IsOnlyPart part old) old (only_now part old)
+
+-- a part that couldn't get its name was removed
+pub part_unplaced : (w : FolderError) (left : Option FolderError) (part : List ℕ) (v u : PartValue) (old between new : List Step) → u.name ≡ part
+    → between ≡ Refused call.Place v.name w ∷ (told_of v ++ old) → new ≡ removed_by left u.name ∷ (told_of u ++ between) → PartMoments part old new
+part_unplaced w left part v u old between new is first last =
+    let refused = part_step part old (told_of v ++ old) between (Refused call.Place v.name w) (part_told part v.name v.refused old old (nothing_yet part old)) first (λ h. h) in
+    part_removed left part u old between new refused is last
 
 -- a save that ended before the part had its name
 pub unplaced : (part final body : List ℕ) (flushed : Bool) (old new : List Step) → PartMoments part old new → AtEachMoment (IsBeforeOrAfter part final body flushed old) old new
@@ -77,33 +83,11 @@ removal_gone : (left : Option FolderError) (part : List ℕ) (between : List Ste
 removal_gone None part between is = gone_removed part between
 removal_gone (Some e) part between is = absurd (cc)
 
-pub removed_leaves : (left : Option FolderError) (part : List ℕ) (v : PartValue) (old between new : List Step) → PartMoments part old between → v.name ≡ part
-    → new ≡ removed_by left v.name ∷ (told_of v ++ between) → LeavesOnly (left_of part left) old new
-removed_leaves left part v old between new before is e =
-    let now : new ≡ removed_by left part ∷ (told_of v ++ between) = e ∙ ap (λ n. removed_by left n ∷ (told_of v ++ between)) is in
-    leaves part left old new (at_end (IsOnlyPart part old) old new (part_removed left part v old between new before is e))
-    (λ none. subst (IsGone part) (sym now) (removal_gone left part (told_of v ++ between) none))
-
--- the refused calls of a save
-removal_calls : (left : Option FolderError) (part : List ℕ) (between : List Step) → refused_calls (removed_by left part ∷ between) ≡ removal_of part left ++ refused_calls between
-removal_calls None part between = refl
-removal_calls (Some e) part between = refl
-
-told_refusal : (part : List ℕ) (e : SaveError) → told part (call_of e) ≡ refusal_of part e
-told_refusal part (error.Create w) = refl
-told_refusal part (error.Write w) = refl
-told_refusal part (error.Flush w) = refl
-told_refusal part (error.Place w) = refl
-told_refusal part error.OutOfMemory = refl
-
--- of one whose part was removed after a call of the part was refused
-pub filling_calls : (e : SaveError) (left : Option FolderError) (part : List ℕ) (v : PartValue) (between new : List Step) → v.name ≡ part → v.refused ≡ call_of e
-    → new ≡ removed_by left v.name ∷ (told_of v ++ between) → refused_calls new ≡ (removal_of part left ++ refusal_of part e) ++ refused_calls between
-filling_calls e left part v between new is calls now =
-    ap refused_calls (now ∙ ap (λ n. removed_by left n ∷ (told n v.refused ++ between)) is ∙ ap (λ c. removed_by left part ∷ (told part c ++ between)) calls)
-    ∙ removal_calls left part (told part (call_of e) ++ between)
-    ∙ ap (λ l. removal_of part left ++ l) (calls_told part (call_of e) between ∙ ap (λ (l : List Step). l ++ refused_calls between) (told_refusal part e))
-    ∙ sym (append_assoc (removal_of part left) (refusal_of part e) (refused_calls between))
+pub removed_gone : (left : Option FolderError) (part : List ℕ) (v : PartValue) (old new : List Step) → v.name ≡ part → new ≡ removed_by left v.name ∷ (told_of v ++ old)
+    → left ≡ None → IsGone part new
+removed_gone left part v old new is e none =
+    let now : new ≡ removed_by left part ∷ (told_of v ++ old) = e ∙ ap (λ n. removed_by left n ∷ (told_of v ++ old)) is in
+    subst (IsGone part) (sym now) (removal_gone left part (told_of v ++ old) none)
 
 -- refusals are the refused calls
 pub refusals_are : (steps : List Step) → refusals steps ≡ length (refused_calls steps)
@@ -122,9 +106,9 @@ one_refusal part (error.Flush w) known = refl
 one_refusal part (error.Place w) known = refl
 one_refusal part error.OutOfMemory known = absurd (known refl)
 
-removal_length : (part : List ℕ) (left : Option FolderError) → (length (removal_of part left) ≡ length (left_of part left)) × (length (left_of part left) ≤ 1)
-removal_length part None = (refl, omega arith)
-removal_length part (Some e) = (refl, omega arith)
+removal_length : (part : List ℕ) (left : Option FolderError) → length (removal_of part left) ≡ length (left_of part left)
+removal_length part None = refl
+removal_length part (Some e) = refl
 
 counts : (part : List ℕ) (e : SaveError) (left : Option FolderError) (old new : List Step) → e ≢ error.OutOfMemory
     → refused_calls new ≡ (removal_of part left ++ refusal_of part e) ++ refused_calls old → refusals new ≡ refusals old + length (left_of part left) + 1
@@ -137,31 +121,32 @@ counts part e left old new known calls =
       length-append (removal_of part left ++ refusal_of part e) (refused_calls old),
       length-append (removal_of part left) (refusal_of part e),
       one_refusal part e known,
-      (removal_length part left).0,
+      removal_length part left,
     )
 
 pub refusals_grow : (part : List ℕ) (e : SaveError) (left : Option FolderError) (old new : List Step) → e ≢ error.OutOfMemory
     → refused_calls new ≡ (removal_of part left ++ refusal_of part e) ++ refused_calls old → refusals old < refusals new
 refusals_grow part e left old new known calls = omega (arith, counts part e left old new known calls)
 
-pub refused_twice : (part : List ℕ) (e : SaveError) (left : Option FolderError) (old new : List Step) → e ≢ error.OutOfMemory
-    → refused_calls new ≡ (removal_of part left ++ refusal_of part e) ++ refused_calls old → refusals old + 2 * length (left_of part left) ≤ refusals new
-refused_twice part e left old new known calls = omega (arith, counts part e left old new known calls, (removal_length part left).1)
+pub refused_once : (part : List ℕ) (e : SaveError) (left : Option FolderError) (old new : List Step) → e ≢ error.OutOfMemory
+    → refused_calls new ≡ (removal_of part left ++ refusal_of part e) ++ refused_calls old → refusals old + length (left_of part left) ≤ refusals new
+refused_once part e left old new known calls = omega (arith, counts part e left old new known calls)
+
+-- a part that is left costs a refusal
+told_more : (part : List ℕ) (calls : List (FolderCall × FolderError)) (old : List Step) → refusals old ≤ refusals (told part calls ++ old)
+told_more part [] old = omega arith
+told_more part (c ∷ calls) old = omega (arith, told_more part calls old)
+
+removal_more : (left : Option FolderError) (part : List ℕ) (old : List Step) → refusals old + length (left_of part left) ≤ refusals (removed_by left part ∷ old)
+removal_more None part old = omega arith
+removal_more (Some e) part old = omega arith
+
+pub removed_more : (left : Option FolderError) (v : PartValue) (old new : List Step) → new ≡ removed_by left v.name ∷ (told_of v ++ old)
+    → refusals old + length (left_of v.name left) ≤ refusals new
+removed_more left v old new e = omega (arith, ap refusals e, removal_more left v.name (told_of v ++ old), told_more v.name v.refused old)
 
 pub same_refusals : (old new : List Step) → refused_calls new ≡ refused_calls old → refusals new ≡ refusals old
 same_refusals old new calls = omega (arith, refusals_are old, refusals_are new, ap length calls)
-
--- of one whose part was removed after it couldn't get its name
-pub placing_calls : (w : FolderError) (left : Option FolderError) (part : List ℕ) (v u : PartValue) (between refused new : List Step) → v.name ≡ part → v.refused ≡ [] → u.name ≡ part
-    → u.refused ≡ [] → refused ≡ Refused call.Place v.name w ∷ (told_of v ++ between) → new ≡ removed_by left u.name ∷ (told_of u ++ refused)
-    → refused_calls new ≡ (removal_of part left ++ refusal_of part (error.Place w)) ++ refused_calls between
-placing_calls w left part v u between refused new v_is v_none u_is u_none first last =
-    let before : refused_calls refused ≡ Refused call.Place part w ∷ refused_calls between =
-    ap refused_calls (first ∙ ap (λ n. Refused call.Place n w ∷ (told n v.refused ++ between)) v_is ∙ ap (λ c. Refused call.Place part w ∷ (told part c ++ between)) v_none) in
-    ap refused_calls (last ∙ ap (λ n. removed_by left n ∷ (told n u.refused ++ refused)) u_is ∙ ap (λ c. removed_by left part ∷ (told part c ++ refused)) u_none)
-    ∙ removal_calls left part refused
-    ∙ ap (λ l. removal_of part left ++ l) before
-    ∙ sym (append_assoc (removal_of part left) (refusal_of part (error.Place w)) (refused_calls between))
 
 -- a part that has its name
 pub placed_is : (part final content : List ℕ) (flush : Bool) (v : PartValue) (between new : List Step) → v.name ≡ part → v.bytes ≡ content → v.flushed ≡ flush → v.refused ≡ []

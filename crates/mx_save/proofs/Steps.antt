@@ -11,7 +11,7 @@ use Rattle.mx_folder.specs.declared.steps.Step.{Step}
 use Rattle.mx_folder.specs.declared.steps.Step.TheVariants.{Created, Placed, Removed, Refused}
 use Rattle.mx_folder.specs.Steps.{done, refusals}
 use Rattle.mx_folder.specs.Files.{File, holding, file}
-use Rattle.mx_save.specs.Bodies.{Holds, FilesAreKept, IsGone, IsOnlyPart, IsBeforeOrAfter, LeavesOnly, left_of}
+use Rattle.mx_save.specs.Bodies.{FilesAreKept, IsGone, IsOnlyPart, IsBeforeOrAfter, LeavesOnly}
 
 pub same_name : (name : List ℕ) → bytes_eq name name ≡ true
 same_name name = (bytes_eq-Decides name name).1 refl
@@ -38,19 +38,12 @@ pub only_done : {T : Type 0} (result : Result T FolderError) (step : Step) (part
 only_done (Ok x) step part old between h g = g
 only_done (Err e) step part old between h g = h
 
--- only the part, and then only the part
-pub only_on : (part : List ℕ) (old between moment : List Step) → IsOnlyPart part old between → IsOnlyPart part between moment → IsOnlyPart part old moment
-only_on part old between moment h g found name differ = g found name differ ∙ h found name differ
-
 -- refused calls are counted
 pub done_grows : {T : Type 0} (result : Result T FolderError) (step : Step) (steps : List Step) → refusals steps ≤ refusals (step ∷ steps) → refusals steps ≤ refusals (done result step ∷ steps)
 done_grows (Ok x) step steps h = h
 done_grows (Err e) step steps h = omega arith
 
 -- a part gets its name
-pub holds_placed : (part final bytes : List ℕ) (flushed : Bool) (old : List Step) → Holds final bytes flushed (Placed part final bytes flushed ∷ old)
-holds_placed part final bytes flushed old found = cond-true (bytes_eq final final) (Some (holding bytes flushed)) _ (same_name final)
-
 pub before_or_after_placed : (part final body : List ℕ) (flushed : Bool) (old between : List Step) → IsOnlyPart part old between
     → IsBeforeOrAfter part final body flushed old (Placed part final body flushed ∷ between)
 before_or_after_placed part final body flushed old between only found name differ =
@@ -68,8 +61,23 @@ only_is_before part final body flushed old moment only found name differ = inl (
 pub kept_from_only : (part : List ℕ) (old new : List Step) → IsPartName part → IsOnlyPart part old new → FilesAreKept old new
 kept_from_only part old new hidden only found name safe = only found name (not_part name part safe hidden)
 
--- parts that are left
-name_cases : (name part : List ℕ) → (name ≡ part) ⊎ (name ≢ part)
+-- each other name of a part holds what it held
+abbrev pub PartsAreKept : List ℕ → List Step → List Step → Type 0
+PartsAreKept part old new = (found : List ℕ → Option File) (name : List ℕ) → IsPartName name → name ≢ part → file found new name ≡ file found old name
+
+pub parts_from_only : (part : List ℕ) (old new : List Step) → IsOnlyPart part old new → PartsAreKept part old new
+parts_from_only part old new only found name hidden differ = only found name differ
+
+pub parts_from_placed : (part final body : List ℕ) (flushed : Bool) (old new : List Step) → IsSafeName final → IsBeforeOrAfter part final body flushed old new
+    → PartsAreKept part old new
+parts_from_placed part final body flushed old new safe placed found name hidden differ =
+    elim (placed found name differ) [
+      | inl e ↦ e
+      | inr p ↦ absurd (not_part final name safe hidden (sym p.0))
+    ]
+
+-- parts that are there
+pub name_cases : (name part : List ℕ) → (name ≡ part) ⊎ (name ≢ part)
 name_cases name part =
     elim (cases_Bool (bytes_eq name part)) [
       | inl is ↦ inl ((bytes_eq-Decides name part).0 is)
@@ -82,28 +90,9 @@ gone_removed part old found = cond-true (bytes_eq part part) None (file found ol
 pub none_left_refused : (asked : FolderCall) (part : List ℕ) (error : FolderError) (old new : List Step) → new ≡ Refused asked part error ∷ old → LeavesOnly [] old new
 none_left_refused asked part error old new e found name hidden = inl (ap (λ l. file found l name) e)
 
-pub leaves : (part : List ℕ) (left : Option FolderError) (old new : List Step) → IsOnlyPart part old new → (left ≡ None → IsGone part new) → LeavesOnly (left_of part left) old new
-leaves part None old new only gone found name hidden =
-    elim (name_cases name part) [
-      | inl is ↦ inr (inl (ap (file found new) is ∙ gone refl found))
-      | inr differ ↦ inl (only found name differ)
-    ]
-leaves part (Some why) old new only gone found name hidden =
+pub one_left : (part : List ℕ) (old new : List Step) → IsOnlyPart part old new → LeavesOnly (part ∷ []) old new
+one_left part old new only found name hidden =
     elim (name_cases name part) [
       | inl is ↦ inr (inr (0, omega arith, sym is))
       | inr differ ↦ inl (only found name differ)
-    ]
-
-placed_away : (part final body : List ℕ) (flushed : Bool) (between : List Step) (found : List ℕ → Option File) (name : List ℕ) → name ≢ final
-    → file found (Placed part final body flushed ∷ between) name ≡ cond (bytes_eq name part) None (file found between name)
-placed_away part final body flushed between found name differ = cond-false (bytes_eq name final) (Some (holding body flushed)) _ (other_name name final differ)
-
-pub none_left_placed : (part final body : List ℕ) (flushed : Bool) (old between new : List Step) → IsSafeName final → IsOnlyPart part old between
-    → new ≡ Placed part final body flushed ∷ between → LeavesOnly [] old new
-none_left_placed part final body flushed old between new safe only e found name hidden =
-    let now : file found new name ≡ cond (bytes_eq name part) None (file found between name) =
-    ap (λ l. file found l name) e ∙ placed_away part final body flushed between found name (λ same. not_part final name safe hidden (sym same)) in
-    elim (name_cases name part) [
-      | inl is ↦ inr (inl (now ∙ cond-true (bytes_eq name part) None (file found between name) ((bytes_eq-Decides name part).1 is)))
-      | inr differ ↦ inl (now ∙ cond-false (bytes_eq name part) None (file found between name) (other_name name part differ) ∙ only found name differ)
     ]

@@ -11,11 +11,7 @@ use Rattle.mx_folder.specs.declared.steps.Step.TheVariants.{Refused}
 use Rattle.mx_save.specs.declared.error.SaveError.{SaveError}
 use Rattle.mx_save.specs.declared.error.SaveError.TheVariants as error
 use Rattle.mx_save.specs.Ledgers.{LedgerValue, is_taken, is_there, most_parts}
-use Rattle.mx_save.specs.Tries.{AreTried, IsRefusedBy, IsRefusedOnce, IsSavedBy, next_number, number_after, refusal_of, removal_of, taken_parts}
-
--- refused calls, in a ledger
-pub calls_on : (told now old also : List Step) → now ≡ told ++ old → old ≡ also → now ≡ told ++ also
-calls_on told now old also is same = is ∙ ap (λ l. told ++ l) same
+use Rattle.mx_save.specs.Tries.{AreTried, IsRefusedBy, IsRefusedOnce, next_number, number_after, refusal_of, removal_of, taken_parts}
 
 pub err_weaker : {A E : Type 0} (P Q : E → Type 0) (r : Result A E) → ((x : E) → P x → Q x) → IfErr r P → IfErr r Q
 err_weaker P Q (Ok a) f p = tt
@@ -77,11 +73,6 @@ last_tried old mid new taken part refused few before next named calls = record {
   part = named ∙ ap (λ p. part_of p mid.number) before.process ∙ ap (part_of old.process) before.number;
   calls = calls ∙ ap (λ l. refused ++ l) before.calls;
 }
-
-pub saved_last : {B : Type 0} (old mid new : LedgerValue B) (taken : ℕ) → taken < most_parts → AreTaken old mid taken
-    → (new.process ≡ mid.process) × (new.number ≡ next_number mid.number) → refused_calls new.steps ≡ refused_calls mid.steps → IsSavedBy old new
-saved_last old mid new taken few before next calls =
-    (part_of mid.process mid.number, last_tried old mid new taken (part_of mid.process mid.number) [] few before next refl calls)
 
 pub refused_last : {B : Type 0} (old mid new : LedgerValue B) (taken : ℕ) (e : SaveError) (part : Option (List ℕ)) (left : Option FolderError) → taken < most_parts
     → AreTaken old mid taken → (new.process ≡ mid.process) × (new.number ≡ next_number mid.number) → IsRefusedOnce mid new e part left → IsRefusedBy old new e part left

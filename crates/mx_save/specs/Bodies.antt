@@ -1,35 +1,14 @@
 -- What saving a body does to a folder.
-use Rattle.std.specs.Prelude.{◌≡◌, ◌≢◌, ◌⊎◌, ℕ, Bool, false, List, [], ◌∷◌, ◌++◌, Option, Some, None, flat_map}
+use Rattle.std.specs.Prelude.{◌≡◌, ◌≢◌, ◌⊎◌, ℕ, Bool, List, [], ◌∷◌, Option, Some, None}
 use Rattle.std.specs.List.{Contains}
 use Rattle.mx_folder.specs.declared.errors.FolderError.{FolderError}
 use Rattle.mx_folder.specs.declared.steps.Step.{Step}
 use Rattle.mx_folder.specs.Files.{File, holding, file}
-use Rattle.mx_folder.specs.Parts.{PartValue}
 use Rattle.mx_file_name.specs.Safe.{IsSafeName, IsPartName}
-
--- the bytes of a body, from its parts
-abbrev pub content_of : List (List ℕ) → List ℕ
-content_of parts = flat_map (λ part. part) parts
 
 -- under this name is a file with these bytes and no others, which are all on the disk or aren't known to be
 abbrev pub Holds : List ℕ → List ℕ → Bool → List Step → Type 0
 Holds name bytes flushed moment = (found : List ℕ → Option File) → file found moment name ≡ Some (holding bytes flushed)
-
--- Private: from old to new these bytes were added to what the part had
-pub record Appends (more : List ℕ) (old new : PartValue) : Type 0 where
-  pub bytes : new.bytes ≡ old.bytes ++ more
-  pub unflushed : old.flushed ≡ false → new.flushed ≡ false
-
--- Private: from old to new a prefix of these bytes was added to what the part had, and their rest is held.
-pub record AppendsFront (more held : List ℕ) (old new : PartValue) : Type 0 where
-  pub front : List ℕ
-  pub written : Appends front old new
-  pub is : more ≡ front ++ held
-
--- Private: the part has these bytes, which are on the disk where that was asked for
-pub record IsFilled (bytes : List ℕ) (flushed : Bool) (part : PartValue) : Type 0 where
-  pub bytes_are : part.bytes ≡ bytes
-  pub flushed_is : part.flushed ≡ flushed
 
 -- each name but that of the part holds what it held
 abbrev pub IsOnlyPart : List ℕ → List Step → List Step → Type 0
@@ -44,7 +23,7 @@ abbrev pub left_of : List ℕ → Option FolderError → List (List ℕ)
 left_of part None = []
 left_of part (Some why) = part ∷ []
 
--- rule file-no-part-left: No part is left but one that the folder refused to remove, whose name is told.
+-- rule file-no-part-left: No part is left but one that the folder refused to remove, whose name is told where its URL is reported.
 --
 -- the name of each part holds what it held, or nothing, but for these
 abbrev pub LeavesOnly : List (List ℕ) → List Step → List Step → Type 0

@@ -5,7 +5,7 @@ use Rattle.mx_folder.specs.Words.{folder_words}
 use Rattle.mx_save.specs.declared.error.SaveError.{SaveError}
 use Rattle.mx_save.specs.declared.error.SaveError.TheVariants as error
 
--- why the folder refused
+-- the folder's error in words
 abbrev pub save_words : SaveError → List ℕ
 save_words (error.Create e) = folder_words e
 save_words (error.Write e) = folder_words e
@@ -18,7 +18,7 @@ abbrev pub is_create : SaveError → Bool
 is_create (error.Create e) = true
 is_create _ = false
 
--- of a part that is left
+-- the text about a part that is left
 abbrev pub left_text : List ℕ → Option FolderError → List ℕ
 left_text part None = []
 left_text part (Some why) = codes "; the part " ++ (part ++ (codes " is left: " ++ folder_words why))

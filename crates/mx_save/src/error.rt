@@ -10,23 +10,23 @@ use mx_folder::FolderError;
 use std::error::Error;
 use std::fmt;
 
-/// Why a body wasn't saved: at which call, and why the folder refused.
+/// Why a body wasn't saved: which call failed, and the folder's error.
 #[derive(Clone, Copy, Debug, PartialEq, Eq)]
 pub enum SaveError {
     /// The part couldn't be made.
     Create(FolderError),
-    /// Not all of it could be written.
+    /// The part couldn't be written.
     Write(FolderError),
     /// The part couldn't be flushed.
     Flush(FolderError),
-    /// The part couldn't be given its name.
+    /// The part couldn't be given its final name.
     Place(FolderError),
-    /// Memory was refused.
+    /// Out of memory.
     OutOfMemory,
 }
 
 impl SaveError {
-    /// Why the folder refused, in words, with no capital and no full stop.
+    /// The folder's error in words, with no capital and no full stop.
     pub fn words(self) -> &'static str
         ensures { result.now ≡ save_words self }
     {
@@ -55,28 +55,28 @@ impl fmt::Display for SaveError {
 
 impl Error for SaveError {}
 
-/// Why a body wasn't saved, and why its part is left, if it is.
-#[derive(Clone, Copy, Debug, PartialEq, Eq)]
-pub struct PartError {
-    /// At which call it failed, and why.
-    pub error: SaveError,
-    /// Why the folder refused to remove the part, which is left there; `None` where it made none, or removed it.
-    pub left: Option<FolderError>,
+/// Why a part didn't get its final name, and why it is left, if it is.
+#[derive(Clone, Copy)]
+pub(crate) struct PartError {
+    /// Which call failed, and why.
+    pub(crate) error: SaveError,
+    /// Why the folder refused to remove the part, which is left; `None` if the part was removed.
+    pub(crate) left: Option<FolderError>,
 }
 
-/// A body that wasn't saved: why, the name of its part, and why that is left, if it is.
+/// A body that wasn't saved: why, the name of its part, and why the part is left, if it is.
 #[derive(Drop)]
 pub struct Unsaved {
-    /// At which call it failed, and why.
+    /// Which call failed, and why.
     pub error: SaveError,
-    /// The name of its part; `None` where memory for that was refused.
+    /// The name of its part; `None` if there was no memory for the name.
     pub part: Option<PartName>,
-    /// Why the folder refused to remove the part, which is left there; `None` where it made none, or removed it.
+    /// Why the folder refused to remove the part, which is left; `None` if no part was made, or it was removed.
     pub left: Option<FolderError>,
 }
 
 impl Unsaved {
-    // Whether something had the name of the part.
+    // Whether the part couldn't be made because its name is taken.
     pub(crate) fn is_taken(&self) -> bool
         ensures { result ≡ is_taken self.now.error self.now.left }
     {
@@ -86,15 +86,16 @@ impl Unsaved {
         }
     }
 
-    /// Whether no file could be opened for it, since too many are open.
+    /// Whether its part couldn't be made because too many files are open.
     pub fn is_file_limit(&self) -> bool
-        ensures { result ≡ true → self.now.error ≡ errors.Create whys.TooManyOpen }
+        ensures limit { result ≡ true → self.now.error ≡ errors.Create whys.TooManyOpen }
+        ensures same { self.now.error ≡ errors.Create whys.TooManyOpen → result ≡ true }
     {
         matches!(self.error, SaveError::Create(FolderError::TooManyOpen))
     }
 }
 
-// What is said of a part that is left.
+// The text about a part that is left; empty if it isn't.
 #[derive(Clone, Copy)]
 struct LeftText<'a> {
     part: &'a str,
@@ -119,7 +120,33 @@ impl<'a> fmt::Display for LeftText<'a> {
     }
 }
 
-/// It names a part that couldn't be made, or that is left.
+/// A part whose body isn't saved: its name, and why it is left, if it is.
+#[derive(Drop)]
+pub struct Discarded {
+    /// The name of the part.
+    pub part: PartName,
+    /// Why the folder refused to remove the part, which is left; `None` if the part was removed.
+    pub left: Option<FolderError>,
+}
+
+/// The text that follows the reason why a body isn't saved: it names the part if that is left, and else is empty.
+impl fmt::Display for Discarded {
+    ghost use Rattle.std.specs.Prelude.{Some};
+    ghost use Rattle.mx_save.specs.Words.{left_text};
+
+    ghost output = { λ d. Some (left_text d.part d.left) };
+
+    // rule file-no-part-left
+    fn fmt<W: fmt::Write>(&self, f: &mut fmt::Formatter<W>) -> fmt::Result {
+        let left = LeftText {
+            part: self.part.as_str(),
+            left: self.left,
+        };
+        write!(f, "{left}")
+    }
+}
+
+/// The error in words, with the name of the part if it couldn't be made, or is left.
 impl fmt::Display for Unsaved {
     ghost use Rattle.std.specs.Prelude.{Some};
     ghost use Rattle.mx_save.specs.Words.{unsaved_text};

@@ -1,32 +1,35 @@
 //! The saves of a run.
-ghost use Rattle.std.specs.Prelude.{◌≡◌, ◌≢◌, ◌<◌, ◌≤◌, ◌+◌, false, true, [], ◌∷◌, ◌++◌, map, Ok, IsOk, IfOk, IfErr, OnOk, OnErr};
+ghost use Rattle.std.specs.Prelude.{◌≡◌, ◌≢◌, ◌<◌, ◌≤◌, ◌+◌, false, true, [], ◌∷◌, ◌++◌, map, Some, None, IsOk, IsErr, IfOk, IfErr, OnOk, OnErr};
+ghost use Rattle.std.specs.List.{Contains};
 ghost use Rattle.mx_file_name.specs.Names.{part_of};
+ghost use Rattle.mx_folder.specs.Parts.{empty_part, told_of};
 ghost use Rattle.mx_folder.specs.Steps.{refusals, refused_calls, done, looked};
 ghost use Rattle.mx_folder.specs.Moments.{IsLater};
+ghost use Rattle.mx_folder.specs.declared.steps.FolderCall.TheVariants as calls;
 ghost use Rattle.mx_folder.specs.declared.steps.Step.TheVariants as steps;
 ghost use Rattle.mx_save.specs.Bodies.{FilesAreKept, left_of};
-ghost use Rattle.mx_save.specs.Ledgers.{LedgerValue, IsLedger, IsFresh, is_taken, left_names, most_parts};
-ghost use Rattle.mx_save.specs.Tries.{IsRefusedBy, IsRefusedOnce, IsSavedBy, next_number};
+ghost use Rattle.mx_save.specs.Ledgers.{LedgerValue, IsLedger, IsFresh, is_taken, most_parts};
+ghost use Rattle.mx_save.specs.Made.{without};
+ghost use Rattle.mx_save.specs.Sweeps.{IsSwept, IsSweptOnce};
+ghost use Rattle.mx_save.specs.Tries.{AreTried, IsRefusedBy, IsRefusedOnce, next_number, refusal_of, removal_of, removed_by};
 ghost use Rattle.mx_save.specs.declared.error.SaveError.TheVariants as errors;
 
 use crate::body::Body;
-use crate::error::{PartError, SaveError, Unsaved};
-use crate::save::save_body;
-use mx_file_name::{FileName, PartName, part_name};
+use crate::error::{Discarded, PartError, SaveError, Unsaved};
+use crate::made::Made;
+use crate::parts_out::Out;
+use crate::save::{place_part, remove_part};
+use mx_file_name::{FileName, PartName};
 use mx_folder::{Folder, FolderError, Kind, Past};
-use mx_types::OutOfMemory;
 use std::alloc::Global;
 use std::marker::Model;
 use std::snapshot::Snapshot;
 
-// How many names of parts a save tries, where something else has them.
+// How many names are tried for a part, where each is taken.
 const PART_TRIES: u32 = u32::MAX;
 
-/// How many bytes of the parts of a body are gathered for a write.
-const GATHERED: usize = 65_536;
-
 // rule file-no-part-left
-// Notes the name of a part, where it is left.
+// Notes the name of a part if it is left.
 fn note_left(all: &mut Past<Snapshot<PartName>>, part: &PartName, left: Option<FolderError>)
     ensures { map (λ p. p.value) all.new ≡ left_of part.now left ++ map (λ p. p.value) all.old }
 {
@@ -42,24 +45,26 @@ struct Entry<B> {
     body: Snapshot<B>,
 }
 
-/// A folder, and what a run saved in it. Contracts see what had been done to the folder when the run began, and what has been done to it
-/// by now, the newest first; the bodies that were saved, each with its name, the newest first; whether they are flushed; the names of the
-/// parts that are left, the newest first; and the process for which parts are named, with the number of the next.
+/// A folder, and what a run saved in it. A body is saved by two calls: [`make_part`](Ledger::make_part) makes a part, which is then written,
+/// and [`keep`](Ledger::keep) gives the part its final name. [`discard`](Ledger::discard) and [`give_up`](Ledger::give_up) remove a part instead.
+/// Until one of these is called, the part is out. Many parts may be out at once. A run that ends early drops its parts, and removes them by
+/// [`sweep`](Ledger::sweep).
+///
+/// Contracts see what had been done to the folder when the run began, and what has been done to it by now, the newest first; the bodies that
+/// were saved, each with its name, the newest first; whether they are flushed; the numbers of the parts that are out, the newest first; the
+/// names of the parts that are left, the newest first; and the process for which parts are named, with the number of the next.
 ///
 /// Since the run began, each file of the folder was at each moment what it was before the run, or the whole body that was saved under its
 /// name. Each body that was saved is under its name now, and no two have the same name. The name of each part holds what it held before
-/// the run, or nothing, but for parts that the folder refused to remove.
+/// the run, or nothing, except for parts that are out, and parts that the folder refused to remove.
 #[derive(Drop)]
 pub struct Ledger<F: Folder, B: Body> {
-    alloc: Global,
-    process: u32,
     number: u64,
     flush: bool,
-    // where the parts of a body are gathered; empty until a body has several, and while its memory is refused
-    buffer: Vec<u8>,
     folder: F,
     start: Snapshot<F>,
     saved: Past<Entry<B>>,
+    out: Out,
     left: Past<Snapshot<PartName>>,
 }
 
@@ -74,30 +79,33 @@ impl<F: Folder, B: Body> Model for Ledger<F, B> {
       steps = F.steps l.folder;
       entries = map (λ e. (e.name.value, e.body.value)) l.saved;
       flush = l.flush;
+      out = l.out.numbers;
       left = map (λ p. p.value) l.left;
-      process = l.process;
+      process = l.out.process;
       number = l.number;
     } };
 
-    ghost invariant = { λ l. IsLedger B.parts (record {
+    ghost invariant = { λ l. IsLedger B.content (record {
       start = F.steps l.start.value;
       steps = F.steps l.folder;
       entries = map (λ e. (e.name.value, e.body.value)) l.saved;
       flush = l.flush;
+      out = l.out.numbers;
       left = map (λ p. p.value) l.left;
-      process = l.process;
+      process = l.out.process;
       number = l.number;
     }) };
 }
 
 impl<F: Folder, B: Body> Ledger<F, B> {
-    /// A run that begins: nothing was saved yet. Its parts are named for this process, and their bodies are flushed where `flush` says so.
+    /// A run in which nothing is saved yet. Its parts are named for this process. Bodies are flushed to the disk if `flush` is true.
     pub fn new(alloc: Global, process: u32, folder: F, flush: bool) -> Ledger<F, B>
         ensures { result ≡ record {
           start = F.steps folder;
           steps = F.steps folder;
           entries = [];
           flush = flush;
+          out = [];
           left = [];
           process = process;
           number = 0;
@@ -105,91 +113,176 @@ impl<F: Folder, B: Body> Ledger<F, B> {
     {
         let start = Snapshot::of(&folder);
         Ledger {
-            alloc,
-            process,
             number: 0,
             flush,
-            buffer: Vec::new(alloc),
             folder,
             start,
             saved: Past::new(),
+            out: Out::new(alloc, process),
             left: Past::new(),
         }
     }
 
     /// What holds of every ledger. It does nothing: a call gives its caller's proof the law.
     pub fn know(&self)
-        ensures { IsLedger B.parts self.now }
+        ensures { IsLedger B.content self.now }
     {
         // proof: what holds of a ledger
         let _flush = self.flush;
     }
 
-    // The name of the next part.
-    fn next_part(&mut self) -> Result<PartName, OutOfMemory>
+    /// Whether a part has this number, and the process of this ledger.
+    pub fn is_of(&self, made: &Made<F::Part>, number: u64) -> bool
+        ensures process { result ≡ true → made.now.process ≡ self.now.process }
+        ensures number { result ≡ true → made.now.number ≡ number }
+        ensures same { (made.now.process ≡ self.now.process) × (made.now.number ≡ number) → result ≡ true }
+    {
+        made.process() == self.out.process() && made.number() == number
+    }
+
+    // The number of the next part.
+    fn next_number(&mut self) -> u64
+        ensures number { result ≡ self.old.number }
         ensures next { self.new ≡ record self.old { number = next_number self.old.number } }
-        ensures name { IfOk result (λ name. name ≡ part_of self.old.process self.old.number) }
     {
         let number = self.number;
         self.number = number.wrapping_add(1);
-        part_name(self.alloc, self.process, number)
+        number
     }
 
-    // Makes the buffer for a body of several parts. Where its memory is refused, each part is written by itself.
-    fn make_room(&mut self, body: &B)
-        ensures { self.new ≡ self.old }
-    {
-        if body.part_count() <= 1 || !self.buffer.is_empty() {
-            return;
-        }
-        if let Ok(buffer) = vec![in self.alloc; 0; GATHERED] {
-            self.buffer = buffer;
-        }
-    }
-
-    // Saves a body by the next part.
-    fn save_once(&mut self, name: &FileName, body: &B) -> Result<(), Unsaved>
-        requires { IsFresh name.now self.old.entries }
-        ensures saved { OnOk result (self.new.entries ≡ (name.now, body.now) ∷ self.old.entries) }
-        ensures kept { OnErr result (self.new.entries ≡ self.old.entries) }
-        ensures files { OnErr result (FilesAreKept self.old.steps self.new.steps) }
+    // Makes the next part.
+    fn make_next(&mut self) -> Result<Made<F::Part>, Unsaved>
+        ensures of { IfOk result (λ made. made.process ≡ self.old.process) }
+        ensures numbered { IfOk result (λ made. made.number ≡ self.old.number) }
+        ensures part { IfOk result (λ made. made.part ≡ empty_part (part_of self.old.process made.number)) }
+        ensures out { IfOk result (λ made. self.new.out ≡ made.number ∷ self.old.out) }
+        ensures none_out { OnErr result (self.new.out ≡ self.old.out) }
+        ensures none_left { IfErr result (λ u. u.left ≡ None) }
+        ensures entries { self.new.entries ≡ self.old.entries }
+        ensures left { self.new.left ≡ self.old.left }
         ensures start { self.new.start ≡ self.old.start }
         ensures flush { self.new.flush ≡ self.old.flush }
+        ensures next { (self.new.process ≡ self.old.process) × (self.new.number ≡ next_number self.old.number) }
+        ensures files { FilesAreKept self.old.steps self.new.steps }
         ensures later { IsLater self.old.steps self.new.steps }
         ensures cause { IfErr result (λ u. u.error ≢ errors.OutOfMemory → refusals self.old.steps < refusals self.new.steps) }
-        ensures whole { OnOk result (self.new.left ≡ self.old.left) }
-        ensures left { IfErr result (λ u. self.new.left ≡ left_names u.part u.left ++ self.old.left) }
-        ensures next { (self.new.process ≡ self.old.process) × (self.new.number ≡ next_number self.old.number) }
-        ensures saved_by { OnOk result (refused_calls self.new.steps ≡ refused_calls self.old.steps) }
-        ensures refused_by { IfErr result (λ u. IsRefusedOnce self.old self.new u.error u.part u.left) }
+        ensures sound { OnOk result (refused_calls self.new.steps ≡ refused_calls self.old.steps) }
+        ensures refused_by { IfErr result (λ u. IsRefusedOnce self.old self.new u.error u.part None) }
     {
-        let Ok(part) = self.next_part() else {
+        let number = self.next_number();
+        // The name is put in first: once the folder has made the part, no memory is needed to know that it is out.
+        let Ok(()) = self.out.put(number) else {
             return Err(Unsaved {
                 error: SaveError::OutOfMemory,
                 part: None,
                 left: None,
             });
         };
-        self.make_room(body);
+        let name = self.out.newest();
+        // proof: what holds of the name of a part
+        name.know();
+        match self.folder.create(name) {
+            Ok(file) => Ok(Made::new(self.out.process(), number, file)),
+            // Nothing is removed: a file of that name may be somebody else's.
+            Err(error) => Err(Unsaved {
+                error: SaveError::Create(error),
+                part: Some(self.out.take(number)),
+                left: None,
+            }),
+        }
+    }
+
+    // rule file-part-that-exists
+    /// Makes an empty part. If its name is taken, the next number is tried, and it fails for that only once 2^32 - 1 names in a row were taken.
+    /// The numbers go on from one part to the next, so that each name that is taken is tried once in a run.
+    ///
+    /// An error names the call that the folder refused, with the folder's error, or says that there was no memory for the name. The folder
+    /// refused no other call but to make parts whose names were taken. No more parts are out or left than before, and each file is as it was.
+    pub fn make_part(&mut self) -> Result<Made<F::Part>, Unsaved>
+        ensures of { IfOk result (λ made. made.process ≡ self.old.process) }
+        ensures part { IfOk result (λ made. made.part ≡ empty_part (part_of self.old.process made.number)) }
+        ensures out { IfOk result (λ made. self.new.out ≡ made.number ∷ self.old.out) }
+        ensures none_out { OnErr result (self.new.out ≡ self.old.out) }
+        ensures none_left { IfErr result (λ u. u.left ≡ None) }
+        ensures entries { self.new.entries ≡ self.old.entries }
+        ensures left { self.new.left ≡ self.old.left }
+        ensures start { self.new.start ≡ self.old.start }
+        ensures flush { self.new.flush ≡ self.old.flush }
+        ensures process { self.new.process ≡ self.old.process }
+        ensures files { FilesAreKept self.old.steps self.new.steps }
+        ensures later { IsLater self.old.steps self.new.steps }
+        ensures cause { IfErr result (λ u. u.error ≢ errors.OutOfMemory → refusals self.old.steps < refusals self.new.steps) }
+        ensures tried { IfErr result (λ u. is_taken u.error u.left ≡ true → refusals self.old.steps + most_parts ≤ refusals self.new.steps) }
+        ensures made_by { IfOk result (λ made. AreTried self.old self.new (part_of self.old.process made.number) []) }
+        ensures refused_by { IfErr result (λ u. IsRefusedBy self.old self.new u.error u.part None) }
+    {
+        for tried in 1..PART_TRIES {
+            match self.make_next() {
+                Ok(made) => return Ok(made),
+                Err(unsaved) => {
+                    if !unsaved.is_taken() {
+                        return Err(unsaved);
+                    }
+                }
+            }
+        }
+        self.make_next()
+    }
+
+    // rule file-whole-body
+    // rule file-refused-save
+    // rule file-no-part-left
+    /// Saves a body that was written to a part, all of it and no more, under a name that no body before has: flushes the part to the disk if bodies
+    /// are flushed, and gives it its final name. What was under that name before stays until that moment.
+    ///
+    /// An error names the call that the folder refused, with the folder's error. The folder refused no other call but the removal of the part.
+    /// An error leaves each file as it was. The part is left only if the folder refused to remove it, and then the error says why.
+    pub fn keep(
+        &mut self,
+        name: &FileName,
+        made: Made<F::Part>,
+        body: Snapshot<B>,
+    ) -> Result<(), Unsaved>
+        requires fresh { IsFresh name.now self.old.entries }
+        requires of { made.process ≡ self.old.process }
+        requires out { Contains self.old.out made.number }
+        requires whole { made.part.bytes ≡ B.content body.value }
+        requires unflushed { made.part.flushed ≡ false }
+        requires sound { made.part.refused ≡ [] }
+        ensures saved { OnOk result (self.new.entries ≡ (name.now, body.value) ∷ self.old.entries) }
+        ensures kept { OnErr result (self.new.entries ≡ self.old.entries) }
+        ensures files { OnErr result (FilesAreKept self.old.steps self.new.steps) }
+        ensures none_left { OnOk result (self.new.left ≡ self.old.left) }
+        ensures left { IfErr result (λ u. self.new.left ≡ left_of made.part.name u.left ++ self.old.left) }
+        ensures part { IfErr result (λ u. u.part ≡ Some made.part.name) }
+        ensures known { IfErr result (λ u. u.error ≢ errors.OutOfMemory) }
+        ensures cause { IsErr result → refusals self.old.steps < refusals self.new.steps }
+        ensures none_refused { OnOk result (refused_calls self.new.steps ≡ refused_calls self.old.steps) }
+        ensures refused { IfErr result (λ u. refused_calls self.new.steps
+            ≡ (removal_of made.part.name u.left ++ refusal_of made.part.name u.error) ++ refused_calls self.old.steps) }
+        ensures out { self.new.out ≡ without made.number self.old.out }
+        ensures start { self.new.start ≡ self.old.start }
+        ensures flush { self.new.flush ≡ self.old.flush }
+        ensures process { self.new.process ≡ self.old.process }
+        ensures number { self.new.number ≡ self.old.number }
+        ensures later { IsLater self.old.steps self.new.steps }
+    {
+        // proof: what holds of the part
+        made.know();
+        let (part, file) = made.come_back(&mut self.out);
         // proof: what holds of both names
         part.know();
         name.know();
-        match save_body(
-            &mut self.folder,
-            &part,
-            name,
-            body,
-            self.flush,
-            &mut self.buffer,
-        ) {
+        match place_part(&mut self.folder, file, name, self.flush) {
             Ok(()) => {
                 self.saved.note(Entry {
                     name: Snapshot::of(name),
-                    body: Snapshot::of(body),
+                    body,
                 });
                 Ok(())
             }
             Err(PartError { error, left }) => {
+                drop(body);
                 note_left(&mut self.left, &part, left);
                 Err(Unsaved {
                     error,
@@ -200,40 +293,97 @@ impl<F: Folder, B: Body> Ledger<F, B> {
         }
     }
 
-    // rule file-part-that-exists
-    /// Saves a body under a name that none of those before has. It is written under the name of a part, which is another one for each try:
-    /// where something else has that name, the next number is taken, and it fails for that only once 2^32 - 1 names in a row were taken.
-    /// The numbers go on from one save to the next, so all saves of a run together make one call more for each part that was there.
-    ///
-    /// An error says at which call it came, and that the folder refused it, with its answer, or that memory was refused. Besides that call, and
-    /// the parts that were there, the folder refused none but the removal of the part. An error leaves each file as it was, and the part stays
-    /// behind only where the folder refused to remove it, which the error says.
-    pub fn save(&mut self, name: &FileName, body: &B) -> Result<(), Unsaved>
-        requires { IsFresh name.now self.old.entries }
-        ensures saved { OnOk result (self.new.entries ≡ (name.now, body.now) ∷ self.old.entries) }
-        ensures kept { OnErr result (self.new.entries ≡ self.old.entries) }
-        ensures files { OnErr result (FilesAreKept self.old.steps self.new.steps) }
+    // rule file-no-part-left
+    /// Removes a part whose body isn't to be saved, whatever it has. The part is left only if the folder refuses to remove it, and then the result
+    /// says why. Each file is as it was.
+    pub fn discard(&mut self, made: Made<F::Part>) -> Discarded
+        requires of { made.process ≡ self.old.process }
+        requires out { Contains self.old.out made.number }
+        ensures part { result.part ≡ made.part.name }
+        ensures removed { self.new.steps ≡ removed_by result.left made.part.name ∷ (told_of made.part ++ self.old.steps) }
+        ensures left { self.new.left ≡ left_of made.part.name result.left ++ self.old.left }
+        ensures out { self.new.out ≡ without made.number self.old.out }
+        ensures entries { self.new.entries ≡ self.old.entries }
         ensures start { self.new.start ≡ self.old.start }
         ensures flush { self.new.flush ≡ self.old.flush }
+        ensures process { self.new.process ≡ self.old.process }
+        ensures number { self.new.number ≡ self.old.number }
+        ensures files { FilesAreKept self.old.steps self.new.steps }
         ensures later { IsLater self.old.steps self.new.steps }
-        ensures cause { IfErr result (λ u. u.error ≢ errors.OutOfMemory → refusals self.old.steps < refusals self.new.steps) }
-        ensures tried { IfErr result (λ u. is_taken u.error u.left ≡ true → refusals self.old.steps + most_parts ≤ refusals self.new.steps) }
-        ensures whole { OnOk result (self.new.left ≡ self.old.left) }
-        ensures left { IfErr result (λ u. self.new.left ≡ left_names u.part u.left ++ self.old.left) }
-        ensures saved_by { OnOk result (IsSavedBy self.old self.new) }
-        ensures refused_by { IfErr result (λ u. IsRefusedBy self.old self.new u.error u.part u.left) }
     {
-        for tried in 1..PART_TRIES {
-            match self.save_once(name, body) {
-                Ok(()) => return Ok(()),
-                Err(unsaved) => {
-                    if !unsaved.is_taken() {
-                        return Err(unsaved);
-                    }
-                }
-            }
+        // proof: what holds of the part
+        made.know();
+        let (part, file) = made.come_back(&mut self.out);
+        // proof: what holds of its name
+        part.know();
+        let left = remove_part(&mut self.folder, file);
+        note_left(&mut self.left, &part, left);
+        Discarded { part, left }
+    }
+
+    // rule file-refused-save
+    // rule file-no-part-left
+    /// Removes a part after a write to it was refused with this error. The result has the error, and the name of the part. The part is left only
+    /// if the folder refuses to remove it, and then the result says why. The folder refused no other call, and each file is as it was.
+    pub fn give_up(&mut self, made: Made<F::Part>, error: FolderError) -> Unsaved
+        requires of { made.process ≡ self.old.process }
+        requires out { Contains self.old.out made.number }
+        requires refused { made.part.refused ≡ (calls.Append, error) ∷ [] }
+        ensures error { result.error ≡ errors.Write error }
+        ensures part { result.part ≡ Some made.part.name }
+        ensures left { self.new.left ≡ left_of made.part.name result.left ++ self.old.left }
+        ensures cause { refusals self.old.steps < refusals self.new.steps }
+        ensures refused { refused_calls self.new.steps
+            ≡ (removal_of made.part.name result.left ++ refusal_of made.part.name result.error) ++ refused_calls self.old.steps }
+        ensures out { self.new.out ≡ without made.number self.old.out }
+        ensures entries { self.new.entries ≡ self.old.entries }
+        ensures start { self.new.start ≡ self.old.start }
+        ensures flush { self.new.flush ≡ self.old.flush }
+        ensures process { self.new.process ≡ self.old.process }
+        ensures number { self.new.number ≡ self.old.number }
+        ensures files { FilesAreKept self.old.steps self.new.steps }
+        ensures later { IsLater self.old.steps self.new.steps }
+    {
+        let Discarded { part, left } = self.discard(made);
+        Unsaved {
+            error: SaveError::Write(error),
+            part: Some(part),
+            left,
         }
-        self.save_once(name, body)
+    }
+
+    // rule file-no-part-left
+    // Removes the newest part that is out, whose value was dropped. Returns whether there was one.
+    fn sweep_one(&mut self) -> bool
+        ensures none { result ≡ false → (self.old.out ≡ []) × (self.new ≡ self.old) }
+        ensures one { result ≡ true → IsSweptOnce self.old self.new }
+        ensures files { FilesAreKept self.old.steps self.new.steps }
+    {
+        let Some((_, part)) = self.out.take_newest() else {
+            return false;
+        };
+        // proof: what holds of its name
+        part.know();
+        let left = self.folder.remove_dropped(&part).err();
+        note_left(&mut self.left, &part, left);
+        true
+    }
+
+    // rule file-no-part-left
+    /// Removes each part that is out, by its name, the newest first. It is for a run that ends early, once its parts were dropped, so that nothing
+    /// writes to them any more. A part is left only if the folder refuses to remove it, and then its name is noted. Each file is as it was.
+    pub fn sweep(&mut self)
+        ensures out { self.new.out ≡ [] }
+        ensures swept { IsSwept self.old self.new }
+        ensures entries { self.new.entries ≡ self.old.entries }
+        ensures start { self.new.start ≡ self.old.start }
+        ensures flush { self.new.flush ≡ self.old.flush }
+        ensures process { self.new.process ≡ self.old.process }
+        ensures number { self.new.number ≡ self.old.number }
+        ensures files { FilesAreKept self.old.steps self.new.steps }
+        ensures later { IsLater self.old.steps self.new.steps }
+    {
+        while self.sweep_one() {}
     }
 
     /// Looks up what is under a name. A link isn't followed.
@@ -243,10 +393,10 @@ impl<F: Folder, B: Body> Ledger<F, B> {
         self.folder.look(name)
     }
 
-    /// Ends the run: flushes the names of the folder to the disk, where bodies are flushed, and hands the folder back, in which all that
-    /// was saved still is.
+    /// Ends the run: flushes the names of the folder to the disk if bodies are flushed, and returns the folder, in which all bodies that were
+    /// saved still are.
     pub fn finish(self) -> (F, Result<(), FolderError>)
-        ensures run { IsLedger B.parts (record self { steps = F.steps result.0 }) }
+        ensures run { IsLedger B.content (record self { steps = F.steps result.0 }) }
         ensures asked { self.flush ≡ true → F.steps result.0 ≡ done result.1 steps.FolderFlushed ∷ self.steps }
         ensures unasked { self.flush ≡ false → (F.steps result.0 ≡ self.steps) × IsOk result.1 }
         ensures later { IsLater self.steps (F.steps result.0) }

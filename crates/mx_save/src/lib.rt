@@ -1,13 +1,15 @@
-//! Bodies that are saved whole: a file that is there is a whole body, at each moment, whenever the program is killed.
+//! Bodies that are saved whole: a file that was saved is a whole body at each moment, whenever the program is killed.
 #![tactic(auto)]
 
 mod body;
 mod error;
 pub mod laws;
 mod ledger;
+mod made;
+mod parts_out;
 mod save;
 
 pub use crate::body::Body;
-pub use crate::error::{PartError, SaveError, Unsaved};
+pub use crate::error::{Discarded, SaveError, Unsaved};
 pub use crate::ledger::Ledger;
-pub use crate::save::save_body;
+pub use crate::made::Made;

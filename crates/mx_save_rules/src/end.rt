@@ -51,7 +51,7 @@ pub enum FramingWord {
 #[derive(Clone, Copy)]
 pub struct Transferred {
     pub status: u16,
-    pub length: u32,
+    pub length: u64,
     pub framing: Option<FramingWord>,
     pub hops: u32,
     pub tries: u32,
@@ -185,7 +185,7 @@ impl End {
     }
 
     /// The length of the body, 0 where the URL failed.
-    pub fn length(&self) -> u32
+    pub fn length(&self) -> u64
         ensures { result ≡ self.now.length }
     {
         self.transferred.length
