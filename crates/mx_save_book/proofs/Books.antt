@@ -1,8 +1,8 @@
 -- A book, one URL further, and one end further.
 use Rattle.std.proofs.Common.{◌≡◌, ◌≢◌, ◌∙◌, refl, ap, sym, subst, ℕ, ◌+◌, ◌*◌, ◌<◌, ◌≤◌, ◌^◌, suc, zero, List, [], ◌∷◌, ◌++◌, map, take, length, length-append, append_assoc, append-nil, Bool, true, false, cond, inl, inr, arith}
-use Rattle.std.specs.Prelude.{◌⊎◌, ◌&&◌, if◌then◌else◌, nat_le, Option, Some, None, is_some, IfSome, IfErr, SomeIff, Result, Ok, Err, IsUtf8, MatchResult, OnOk, count_by, slice_get, slice_set}
+use Rattle.std.specs.Prelude.{◌⊎◌, ◌&&◌, if◌then◌else◌, nat_le, Option, Some, None, get_or, is_some, IfSome, IfErr, SomeIff, Result, Ok, Err, IfOk, IsUtf8, MatchOption, MatchResult, OnOk, count_by, slice_get, slice_set}
 use Rattle.std.specs.List.{Contains, AllByRecursion}
-use Rattle.std.proofs.lemmas.Bool.{leb-true}
+use Rattle.std.proofs.lemmas.Bool.{eqb-true, leb-true}
 use Rattle.std.proofs.lemmas.List.{take_at}
 use Rattle.std.proofs.lemmas.List.Elements.{Contains-append_left, Contains-append_right, Contains-push}
 use Rattle.std.proofs.lemmas.List.Sums.{sum_by_push}
@@ -21,22 +21,34 @@ use Rattle.mx_folder.specs.declared.steps.Step.{Step}
 use Rattle.mx_folder.specs.declared.steps.Step.TheVariants as steps
 use Rattle.mx_folder.specs.Moments.{IsLater}
 use Rattle.mx_folder.specs.Steps.{looked, refusals}
+use Rattle.mx_folder.specs.declared.steps.FolderCall.TheVariants as call
+use Rattle.mx_save.specs.Bodies.{left_of}
 use Rattle.mx_save.specs.Ledgers.{LedgerValue, IsFresh}
+use Rattle.mx_save.specs.Made.{without}
+use Rattle.mx_folder.specs.declared.errors.FolderError.TheVariants as folder
+use Rattle.mx_save.specs.Tries.{AreTried, IsRefusedBy, refusal_of, removal_of}
+use Rattle.mx_save.specs.declared.error.SaveError.{SaveError}
+use Rattle.mx_save.specs.declared.error.SaveError.TheVariants as unsaved
 use Rattle.mx_save_rules.specs.Rules.{delay_seconds, is_retried}
-use Rattle.mx_save_rules.specs.Ends.{EndValue, IsEnd}
+use Rattle.mx_save_rules.specs.Ends.{EndValue, IsEnd, failed_end}
+use Rattle.mx_save_rules.specs.declared.end.Transferred.{Transferred}
+use Rattle.mx_save_end.specs.Said.{unsaved_code}
+use Rattle.mx_save.specs.Words.{unsaved_text}
+use Rattle.mx_types.specs.declared.names.Ticket.{Ticket}
 use Rattle.mx_save_rules.specs.declared.end.Verdict.{Verdict}
 use Rattle.mx_save_rules.specs.declared.end.Verdict.TheVariants as verdict
-use Rattle.mx_save_book.specs.declared.asking.Asking.{Asking}
+use Rattle.mx_save_asking.specs.declared.asking.Asking.{Asking}
 use Rattle.mx_save_book.specs.declared.finish.NotEnded.{NotEnded}
 use Rattle.mx_save_book.specs.declared.finish.NotEnded.TheVariants as not_ended
 use Rattle.mx_save_book.specs.declared.job.Job.{Job}
 use Rattle.mx_save_book.specs.declared.job.Slot.{Slot}
 use Rattle.mx_save_book.specs.declared.job.Slot.TheVariants as slot
 use Rattle.mx_save_book.proofs.Calls.{calls_later}
-use Rattle.mx_save_book.specs.Jobs.{told_refusals, AreNamed, AreWhole, BookValue, CanAsk, GrowsBy, GrowsFor, HandsBack, HasEnded, HasFound, HoldsOf, IsAccount, IsBook, IsFailedEnd, IsLaterLedger, IsNameAt, IsTold, IsTry, MayName, Pends, Refuses, Saves, State, is_saved, is_taken, is_told_saved, job_at, job_of, refused_end, state_of}
+use Rattle.mx_save_book.specs.Jobs.{told_refusals, AreNamed, AreWhole, BookValue, CanAsk, ComesBack, LeavesPart, GrowsBy, GrowsFor, HandsBack, HasEnded, HasFound, HoldsBy, HoldsOf, IsAccount, IsBook, IsFailedBy, IsFailedEnd, IsFailedTransfer, IsLaterLedger, IsLeftEnd, IsUnmadeEnd, IsUnsavedEnd, AreOut, IsNameAt, IsTold, IsTry, MayName, Pends, Refuses, Saves, State, has_part, is_saved, is_taken, is_told_saved, job_at, job_of, refused_end, state_of}
 use Rattle.mx_save_book.specs.Lines.{PrintedEndValue}
-use Rattle.mx_save_book.specs.Books.{Delays, HaveEnded, IsFoundAt, LeavesSlot, WaitsAgain, delay_of, next_try}
+use Rattle.mx_save_book.specs.Books.{Delays, HasNoneAdded, HaveEnded, IsFileLimit, IsFoundAt, IsOpened, IsRefusedNow, TellsNone, IsOut, LeavesSlot, LooksInVain, Waits, WaitsAgain, delay_of, is_unadded, next_try, unmade_end}
 use Rattle.mx_save_book.proofs.Names.{all_given_more, fresh_on, given_more, given_new, given_on, is_fresh, is_new, saved_on, whole_on}
+use Rattle.mx_save_book.proofs.Parts.{none_out, opened}
 use Rattle.mx_save_book.proofs.Slots.{as_many, cases, fresh_count, fresh_none, inside, none, one_less, one_more, stays, there}
 
 -- a sum that fits
@@ -162,42 +174,109 @@ found_now old new name later start is = record {
 }
 
 -- what was reported holds when more is saved, and more URLs were read
+transfer_on : (asking : Asking) (old new : LedgerValue OutcomeValue) (o : OutcomeValue) (e : EndValue) → IsLaterLedger old new → IsFailedTransfer asking old o e → IsFailedTransfer asking new o e
+transfer_on asking old new o e later t = record {
+  is = t.is;
+  asked = t.asked;
+  decided = t.decided;
+  report = t.report;
+  text = t.text;
+  said = t.said;
+  part = t.part;
+  left = t.left;
+  words = t.words;
+  calls = calls_later (removal_of t.part t.left) old new later.start later.later t.calls;
+}
+
+refused_on : (old new : LedgerValue OutcomeValue) → IsLaterLedger old new → refusals old.start < refusals old.steps → refusals new.start < refusals new.steps
+refused_on old new later was = omega (arith, was, refusals_later old.steps new.steps later.later, ap refusals later.start)
+
+unsaved_on : (asking : Asking) (old new : LedgerValue OutcomeValue) (o : OutcomeValue) (e : EndValue) → IsLaterLedger old new → IsUnsavedEnd asking old o e → IsUnsavedEnd asking new o e
+unsaved_on asking old new o e later u = record {
+  is = u.is;
+  asked = u.asked;
+  report = u.report;
+  why = u.why;
+  known = u.known;
+  cause = u.cause;
+  part = u.part;
+  left = u.left;
+  code = u.code;
+  words = u.words;
+  refused = refused_on old new later u.refused;
+  calls = calls_later (told_refusals u.why (Some u.part) u.left) old new later.start later.later u.calls;
+}
+
+unmade_on : (asking : Asking) (old new : LedgerValue OutcomeValue) (e : EndValue) → IsLaterLedger old new → IsUnmadeEnd asking old e → IsUnmadeEnd asking new e
+unmade_on asking old new e later u = record {
+  can = u.can;
+  why = u.why;
+  part = u.part;
+  code = u.code;
+  words = u.words;
+  refused = λ known. refused_on old new later (u.refused known);
+  calls = calls_later (told_refusals u.why u.part None) old new later.start later.later u.calls;
+  untransferred = u.untransferred;
+  tries = u.tries;
+}
+
+left_on : (asking : Asking) (old new : LedgerValue OutcomeValue) (o : OutcomeValue) (e : EndValue) → IsLaterLedger old new → IsLeftEnd asking old o e → IsLeftEnd asking new o e
+left_on asking old new o e later l = record {
+  is = l.is;
+  asked = l.asked;
+  cause = l.cause;
+  report = l.report;
+  text = l.text;
+  said = l.said;
+  part = l.part;
+  why = l.why;
+  code = l.code;
+  words = l.words;
+  calls = calls_later (steps.Refused call.Remove l.part l.why ∷ []) old new later.start later.later l.calls;
+}
+
+by_on : (asking : Asking) (old new : LedgerValue OutcomeValue) (o : OutcomeValue) (e : EndValue) → IsLaterLedger old new → IsFailedBy asking old o e → IsFailedBy asking new o e
+by_on asking old new o e later h =
+    elim h [
+      | inl transfer ↦ inl (transfer_on asking old new o e later transfer)
+      | inr other ↦ elim other [
+        | inl u ↦ inr (inl (unsaved_on asking old new o e later u))
+        | inr l ↦ inr (inr (left_on asking old new o e later l))
+      ]
+    ]
+
 failed_on : (asking : Asking) (old new : LedgerValue OutcomeValue) (e : EndValue) → IsLaterLedger old new → IsFailedEnd asking old e → IsFailedEnd asking new e
 failed_on asking old new e later h =
     elim h [
       | inl refused ↦ inl refused
       | inr other ↦ elim other [
-        | inl transfer ↦ inr (inl transfer)
-        | inr u ↦ inr (inr (record {
-          outcome = u.outcome;
-          whole = u.whole;
-          asked = u.asked;
-          decided = u.decided;
-          report = u.report;
-          why = u.why;
-          part = u.part;
-          left = u.left;
-          code = u.code;
-          words = u.words;
-          refused = λ known. omega (arith, u.refused known, refusals_later old.steps new.steps later.later, ap refusals later.start);
-          calls = calls_later (told_refusals u.why u.part u.left) old.steps new.steps later.later u.calls;
-        }))
+        | inl u ↦ inr (inl (unmade_on asking old new e later u))
+        | inr by ↦ inr (inr (by.0, by_on asking old new by.0 e later by.1))
       ]
     ]
 
+-- what holds of an outcome holds
+pub holds_by : (asking : Asking) (l : LedgerValue OutcomeValue) (o : OutcomeValue) (e : EndValue) (v : Verdict) → HoldsBy asking l o e v → HoldsOf asking l e v
+holds_by asking l o e verdict.Saved h = (o, h)
+holds_by asking l o e verdict.Done h = (o, h)
+holds_by asking l o e verdict.Skipped h = absurd h
+holds_by asking l o e verdict.Failed h = inr (inr (o, h))
+
 holds_on : (asking : Asking) (name : List ℕ) (old new : LedgerValue OutcomeValue) (e : EndValue) (v : Verdict) → GrowsBy name old.entries new.entries → IsLaterLedger old new
     → HoldsOf asking old e v → HoldsOf asking new e v
-holds_on asking name old new e verdict.Saved grows later h = record {
-  name = h.name;
-  outcome = h.outcome;
-  file = h.file;
-  saved = saved_on name old.entries new.entries (h.name, h.outcome) grows h.saved;
-  whole = h.whole;
-  asked = h.asked;
-  decided = h.decided;
-  size = h.size;
-  report = h.report;
-}
+holds_on asking name old new e verdict.Saved grows later h = (
+  h.0,
+  record {
+    name = h.1.name;
+    file = h.1.file;
+    saved = saved_on name old.entries new.entries (h.1.name, h.0) grows h.1.saved;
+    whole = h.1.whole;
+    asked = h.1.asked;
+    decided = h.1.decided;
+    size = h.1.size;
+    report = h.1.report;
+  },
+)
 holds_on asking name old new e verdict.Done grows later h = h
 holds_on asking name old new e verdict.Skipped grows later h =
     record { asked = h.asked; name = h.name; file = h.file; found = found_on old new h.name later h.found; untried = h.untried }
@@ -231,6 +310,7 @@ stopped b now s n m bases others more name is asking urls told grows later = rec
       (subst (AllByRecursion (IsTold b.asking (b.urls ++ more) now.ledger)) (sym told) one));
   whole = whole_on name b.ledger.entries now.ledger.entries is.whole grows;
   going = λ e. absurd (cc);
+  out = λ e. absurd (cc);
 }
 
 -- with the URLs, or the folder, as they were
@@ -246,8 +326,8 @@ stopped_later b now s n m bases others name is asking urls told grows later =
     stopped b now s n m bases others [] name is asking (urls ∙ sym (append-nil b.urls)) told grows later
 
 -- where all holds, what was reported does
-pub account : (b : State) (s : Bool) (n : ℕ) (bases : List (List ℕ)) → AreWhole b.ledger.entries → IsBook b n bases → IsAccount b s n bases
-account b s n bases whole is = record { told = is.told; whole = whole; going = λ e. is }
+pub account : (b : State) (s : Bool) (n : ℕ) (bases : List (List ℕ)) → AreWhole b.ledger.entries → IsBook b n bases → AreOut b.ledger.out b.slots → IsAccount b s n bases
+account b s n bases whole is out = record { told = is.told; whole = whole; going = λ e. is; out = λ e. out }
 
 ended_more : (ts : List PrintedEndValue) (t : PrintedEndValue) (place : ℕ) → HasEnded ts place → HasEnded (ts ++ t ∷ []) place
 ended_more ts t place h = (h.0, Contains-append_left ts (t ∷ []) h.0 h.1, h.2)
@@ -581,7 +661,8 @@ all_free : (slots : List Slot) → ((i : ℕ) (p : Job) → job_at slots i ≡ S
 all_free [] n = tt
 all_free (slot.Free ∷ ss) n = (refl, all_free ss (λ i p is. n (suc i) p is))
 all_free (slot.Waiting job ∷ ss) n = absurd (n 0 job refl)
-all_free (slot.Added job ticket ∷ ss) n = absurd (n 0 job refl)
+all_free (slot.Open job number ∷ ss) n = absurd (n 0 job refl)
+all_free (slot.Added job ticket number ∷ ss) n = absurd (n 0 job refl)
 
 uncounted : (slots : List Slot) → ((i : ℕ) (p : Job) → job_at slots i ≡ Some p → ⊥) → count_by is_taken slots ≡ 0
 uncounted slots none_there = fresh_count slots (all_free slots none_there)
@@ -640,7 +721,7 @@ set_length (s ∷ ss) zero v = refl
 set_length (s ∷ ss) (suc i) v = ap suc (set_length ss i v)
 
 -- a URL that comes back is the one that was handed in
-pub handed_back : (job back : Job) (may_retry : Bool) (e : NotEnded) → HandsBack job may_retry e → e ≡ not_ended.Unopened back → (back ≡ job) × (may_retry ≡ true)
+pub handed_back : (job back : Job) (may_retry : Bool) (e : NotEnded) → HandsBack job may_retry e → e ≡ not_ended.Again back → (back ≡ job) × (may_retry ≡ true)
 handed_back job back may_retry e hands is = subst (HandsBack job may_retry) is hands
 
 -- a slot whose URL was taken out is there
@@ -676,6 +757,18 @@ delay_few asking tries code status delay is =
     by_tests true retried n h = refl
     by_tests false retried n h = absurd (cc)
 
+pub delay_retried : (asking : Asking) (slots : List Slot) (at : ℕ) (job : Job) (c told : Code) (status said : ℕ) (delay : Option ℕ) (may_retry : Bool) → job_at slots at ≡ Some job
+    → c ≡ told → status ≡ said → Delays asking slots at c status delay → may_retry ≡ is_some delay → may_retry ≡ true → is_retried asking.method told said ≡ true
+delay_retried asking slots at job c told status said None may_retry there same alike delays may is = let bad : false ≡ true = sym may ∙ is in absurd (cc)
+delay_retried asking slots at job c told status said (Some n) may_retry there same alike delays may is =
+    ap (λ x. is_retried asking.method x said) (sym same) ∙ ap (is_retried asking.method c) (sym alike)
+    ∙ by_tests (nat_le job.tries asking.retries) (is_retried asking.method c status) (1000 * delay_seconds job.tries) (delays job there)
+  where
+    by_tests : (few retried : Bool) (m : ℕ) → Some n ≡ (if few && retried then Some m else None) → retried ≡ true
+    by_tests true true m h = refl
+    by_tests true false m h = absurd (cc)
+    by_tests false retried m h = absurd (cc)
+
 pub retry_tries : (asking : Asking) (slots : List Slot) (at : ℕ) (job next : Job) (code : Code) (status : ℕ) (delay : Option ℕ) → Delays asking slots at code status delay
     → is_some delay ≡ true → job_at slots at ≡ Some job → IsTry asking job.tries → next.tries ≡ next_try job.tries → IsTry asking next.tries
 retry_tries asking slots at job next code status None delays some there once more = absurd (cc)
@@ -690,11 +783,13 @@ leaves_waiting old new at (Some n) some waits = waits
 pub look_later : (old new : LedgerValue OutcomeValue) (step : Step) → new ≡ record old { steps = step ∷ old.steps } → IsLaterLedger old new
 look_later old new step is = subst (IsLaterLedger old) (sym is) (record { start = refl; flush = refl; later = (step ∷ [], refl) })
 
-pub found_by_look : (slots : List Slot) (at : ℕ) (job : Job) (old new : LedgerValue OutcomeValue) (r : Result Kind FolderError) → job_at slots at ≡ Some job → IsLater old.start old.steps
+pub found_by_look : (slots : List Slot) (at : ℕ) (job : Job) (old new : LedgerValue OutcomeValue) (r : Result Kind FolderError) → job_at slots at ≡ Some job
+    → slice_get slots at ≡ Some (slot.Waiting job) → IsLater old.start old.steps
     → new ≡ record old { steps = looked r job.name ∷ old.steps } → r ≡ Ok kind.File → IsFoundAt slots at new
-found_by_look slots at job old new r there later is file = record {
+found_by_look slots at job old new r there waits later is file = record {
   job = job;
   there = there;
+  waits = waits;
   found = found_now old new job.name later (ap (λ l. l.start) is) (ap (λ l. l.steps) is ∙ ap (λ x. looked x job.name ∷ old.steps) file);
 }
 
@@ -702,11 +797,12 @@ pub found_here : (slots : List Slot) (at : ℕ) (job : Job) (l : LedgerValue Out
 found_here slots at job l f there = subst (λ j. HasFound l j.name) (some_same f.job job (sym f.there ∙ there)) f.found
 
 pub account_later : (b : State) (s : Bool) (read : ℕ) (bases : List (List ℕ)) (l : LedgerValue OutcomeValue) → IsAccount b s read bases → l.entries ≡ b.ledger.entries
-    → IsLaterLedger b.ledger l → IsAccount (record b { ledger = l }) s read bases
-account_later b s read bases l is kept later = record {
+    → l.out ≡ b.ledger.out → IsLaterLedger b.ledger l → IsAccount (record b { ledger = l }) s read bases
+account_later b s read bases l is kept out later = record {
   told = told_on b.asking b.urls [] b.ledger l b.told (inl kept) later is.told;
   whole = subst AreWhole (sym kept) is.whole;
   going = λ e. later_on b read bases l (is.going e) kept later;
+  out = λ e. subst (λ o. AreOut o b.slots) (sym out) (is.out e);
 }
 
 -- a URL that was taken out of its slot is put back, and waits
@@ -718,3 +814,181 @@ back_again b read bases at job back next free slots l is was taken put same plac
     let waits = again b read bases at job next (slot.Waiting next) is was refl (place ∙ ap (λ j. j.place) same) (url ∙ ap (λ j. j.url) same) (name ∙ ap (λ j. j.name) same) tries in
     let one = later_on (record b { slots = slice_set b.slots at (slot.Waiting next) }) read bases l waits kept later in
     subst (λ x. IsBook (record b { slots = x; ledger = l }) read bases) (sym now) one
+
+-- no part is out
+pub none_out_of : {W : Type 0} (was now : BookValue W) (read : ℕ) (bases : List (List ℕ)) → was ≡ now → IsAccount (state_of was) was.is_stopped read bases
+    → now.is_stopped ≡ false → count_by is_taken now.slots ≡ 0 → now.ledger.out ≡ []
+none_out_of {W = W} was now read bases same book going empty =
+    let P : BookValue W → Type 0 = λ b. IsAccount (state_of b) b.is_stopped read bases in
+    none_out now.ledger.out now.slots ((subst P same book).out going) empty
+
+-- the URL in a slot
+pub out_job : (slots : List Slot) (at number : ℕ) (job : Job) → IsOut slots at job number → job_at slots at ≡ Some job
+out_job slots at number job o = sym (job_here slots at o.is o.there) ∙ o.url
+
+pub get_set : (slots : List Slot) (i : ℕ) (old v : Slot) → slice_get slots i ≡ Some old → slice_get (slice_set slots i v) i ≡ Some v
+get_set [] i old v is = absurd (cc)
+get_set (s ∷ ss) zero old v is = refl
+get_set (s ∷ ss) (suc i) old v is = get_set ss i old v is
+
+-- a slot whose part has no transfer yet
+pub open_is : (slots : List Slot) (at j number : ℕ) (url job : Job) → slice_get slots at ≡ Some (slot.Open url j) → IsOut slots at job number
+    → slice_get slots at ≡ Some (slot.Open job number)
+open_is slots at j number url job there o =
+    let is : o.is ≡ slot.Open url j = slot_same o.is (slot.Open url j) (sym o.there ∙ there) in
+    let same = some_same url job (subst (λ s. job_of s ≡ Some job) is o.url) in
+    let n = eqb-true j number (subst (λ s. has_part number s ≡ true) is o.part) in
+    there ∙ ap (λ p. Some (slot.Open p j)) same ∙ ap (λ m. Some (slot.Open job m)) n
+  where
+    slot_same : (s t : Slot) → Some s ≡ Some t → s ≡ t
+    slot_same s t e = cc
+
+-- a URL that comes back has no part any more
+pub came_again : (number : ℕ) (old new : LedgerValue OutcomeValue) (e : NotEnded) (back : Job) → ComesBack number old new e → e ≡ not_ended.Again back
+    → (new.out ≡ without number old.out) × (new.left ≡ old.left)
+came_again number old new e back comes is = subst (ComesBack number old new) is comes
+
+pub whatever : {X P : Type 0} (o : Option X) → P → IfSome o (λ _. P)
+whatever None p = tt
+whatever (Some x) p = p
+
+-- where none comes back of a URL that would be tried again, its part is left
+pub retried : (asking : Asking) (slots : List Slot) (at : ℕ) (c told : Code) (status said : ℕ) (delay : Option ℕ) (may_retry : Bool) (old new : LedgerValue OutcomeValue) → c ≡ told → status ≡ said
+    → Delays asking slots at c status delay → may_retry ≡ is_some delay → (may_retry ≡ true → LeavesPart old new) → Delays asking slots at told said None ⊎ (◌≡◌ {A = Option ℕ} None None × LeavesPart old new)
+retried asking slots at c told status said None may_retry old new same alike delays may left =
+    inl (λ job there. delays job there ∙ ap (λ x. delay_of asking job.tries x status) same ∙ ap (λ x. delay_of asking job.tries told x) alike)
+retried asking slots at c told status said (Some n) may_retry old new same alike delays may left = inr (refl, left may)
+
+-- a part was made for the URL in a slot, which waits
+pub account_opened : (b : State) (s : Bool) (read : ℕ) (bases : List (List ℕ)) (at n : ℕ) (l : LedgerValue OutcomeValue) (slots : List Slot) → IsAccount b s read bases → Waits b.slots at
+    → IsOpened b.slots slots at n → l.entries ≡ b.ledger.entries → IsLaterLedger b.ledger l → l.out ≡ n ∷ b.ledger.out → IsAccount (record b { slots = slots; ledger = l }) s read bases
+account_opened b s read bases at n l slots is waits o kept later out = record {
+  told = told_on b.asking b.urls [] b.ledger l b.told (inl kept) later is.told;
+  whole = subst AreWhole (sym kept) is.whole;
+  going = λ e.
+      let was = is.going e in
+      let open_now = slot.Open o.job n in
+      let one = again b read bases at o.job o.job open_now was o.there refl refl refl refl (was.pending at o.job o.there).tries in
+      subst (λ x. IsBook (record b { slots = x; ledger = l }) read bases) (sym o.is) (later_on (record b { slots = slice_set b.slots at open_now }) read bases l one kept later);
+  out = λ e.
+      subst (λ x. AreOut l.out x) (sym o.is)
+      (subst (λ x. AreOut x (slice_set b.slots at (slot.Open o.job n))) (sym out)
+      (opened b.ledger.out b.slots at n (slot.Waiting waits.0) (slot.Open o.job n) (is.out e) waits.1 (λ m. refl) (λ m. refl)));
+}
+
+-- a part was removed, or is left
+pub left_or : (part : List ℕ) (answer : Option FolderError) (old new : LedgerValue OutcomeValue) → new.left ≡ left_of part answer ++ old.left → (new.left ≡ old.left) ⊎ LeavesPart old new
+left_or part None old new is = inl is
+left_or part (Some why) old new is = inr (part, is)
+
+-- a URL was refused, and that was reported
+pub refused_now : {W : Type 0} {Q S : Type 0} (old new : BookValue W) (url : List ℕ) (r : Result Unit S) (s : Result (Option Q) S)
+    → MatchResult r (λ _. s ≡ Ok None) (λ stop. s ≡ Err stop) → OnOk r (IsRefusedNow old new url)
+    → IfOk s (λ asked. MatchOption asked (IsRefusedNow old new url) (λ _. TellsNone old new))
+refused_now {Q = Q} {S = S} old new url (Ok u) s is told =
+    let P : Result (Option Q) S → Type 0 = λ x. IfOk x (λ asked. MatchOption asked (IsRefusedNow old new url) (λ _. TellsNone old new)) in subst P (sym is) told
+refused_now {Q = Q} {S = S} old new url (Err stop) s is told =
+    let P : Result (Option Q) S → Type 0 = λ x. IfOk x (λ asked. MatchOption asked (IsRefusedNow old new url) (λ _. TellsNone old new)) in subst P (sym is) tt
+
+-- too many files were open
+pub limit_of : (old new : LedgerValue OutcomeValue) (why : SaveError) (part : Option (List ℕ)) → IsRefusedBy old new why part None → why ≡ unsaved.Create folder.TooManyOpen
+    → IsFileLimit old new
+limit_of old new why None by is = let bad : unsaved.Create folder.TooManyOpen ≡ unsaved.OutOfMemory = sym is ∙ by.0 in absurd (cc)
+limit_of old new why (Some part) by is = (part, subst (λ e. AreTried old new part (refusal_of part e)) is by.1)
+
+-- no transfer is added in the first slots
+abbrev pub FirstUnadded : List Slot → ℕ → Type 0
+FirstUnadded slots n = (i : ℕ) (job : Job) (ticket : Ticket) (number : ℕ) → i < n → slice_get slots i ≡ Some (slot.Added job ticket number) → ⊥
+
+is_some_slot : (s t : Slot) → Some s ≡ Some t → s ≡ t
+is_some_slot s t e = cc
+
+pub placed : (slots : List Slot) (n : ℕ) (s : Slot) → n < length slots → s ≡ get_or slots n s → slice_get slots n ≡ Some s
+placed [] n s within is = absurd (omega (arith, within))
+placed (t ∷ ss) zero s within is = ap Some (sym is)
+placed (t ∷ ss) (suc n) s within is = placed ss n s (omega (arith, within)) is
+
+pub unadded_more : (slots : List Slot) (n : ℕ) (s : Slot) → slice_get slots n ≡ Some s → is_unadded s ≡ true → FirstUnadded slots n → FirstUnadded slots (n + 1)
+unadded_more slots n s there is before i job ticket number lt has =
+    elim (same_or_other i n) [
+      | inl e ↦ let same = is_some_slot s (slot.Added job ticket number) (sym there ∙ ap (slice_get slots) (sym e) ∙ has) in
+          let bad : false ≡ true = ap is_unadded (sym same) ∙ is in cc
+      | inr other ↦ before i job ticket number (omega (arith, lt, other)) has
+    ]
+
+pub some_added : (slots : List Slot) (n : ℕ) (s : Slot) → slice_get slots n ≡ Some s → is_unadded s ≡ false → ¬ (HasNoneAdded slots)
+some_added slots n slot.Free there is none = let bad : true ≡ false = is in cc
+some_added slots n (slot.Waiting job) there is none = let bad : true ≡ false = is in cc
+some_added slots n (slot.Open job number) there is none = let bad : true ≡ false = is in cc
+some_added slots n (slot.Added job ticket number) there is none = none n job ticket number there
+
+pub slot_within : (slots : List Slot) (i : ℕ) (s : Slot) → slice_get slots i ≡ Some s → i < length slots
+slot_within [] i s is = absurd (cc)
+slot_within (t ∷ ss) zero s is = omega arith
+slot_within (t ∷ ss) (suc i) s is = let h = slot_within ss i s is in omega (arith, h)
+
+-- what is reported where no part could be made
+pub unmade_is : (url : List ℕ) (tries : ℕ) (t : Transferred) (why : SaveError) (part : Option (List ℕ)) (left : Option FolderError) (e : EndValue)
+    → e ≡ failed_end url (unsaved_code why) t (Some (unsaved_text why part left)) → t ≡ record { status = 0; length = 0; framing = None; hops = 0; tries = tries } → left ≡ None
+    → e ≡ unmade_end url tries why part
+unmade_is url tries t why part left e is untransferred gone =
+    let none : Transferred = record { status = 0; length = 0; framing = None; hops = 0; tries = tries } in
+    is ∙ ap (λ x. failed_end url (unsaved_code why) x (Some (unsaved_text why part left))) untransferred
+    ∙ ap (λ x. failed_end url (unsaved_code why) none (Some (unsaved_text why part x))) gone
+
+pub is_none_so : {X : Type 0} (o : Option X) → is_some o ≡ false → None ≡ o
+is_none_so None is = refl
+is_none_so (Some x) is = absurd (cc)
+
+-- the first slots are taken
+abbrev pub FirstTaken : List Slot → ℕ → Type 0
+FirstTaken slots n = (i : ℕ) → i < n → slice_get slots i ≢ Some slot.Free
+
+pub free_of : (s : Slot) → is_taken s ≡ false → s ≡ slot.Free
+free_of slot.Free is = refl
+free_of (slot.Waiting job) is = let bad : true ≡ false = is in cc
+free_of (slot.Open job number) is = let bad : true ≡ false = is in cc
+free_of (slot.Added job ticket number) is = let bad : true ≡ false = is in cc
+
+pub taken_more : (slots : List Slot) (n : ℕ) (s : Slot) → slice_get slots n ≡ Some s → is_taken s ≡ true → FirstTaken slots n → FirstTaken slots (n + 1)
+taken_more slots n s there is before i lt has =
+    elim (same_or_other i n) [
+      | inl e ↦ let same = is_some_slot s slot.Free (sym there ∙ ap (slice_get slots) (sym e) ∙ has) in
+          let bad : false ≡ true = ap is_taken (sym same) ∙ is in cc
+      | inr other ↦ before i (omega (arith, lt, other)) has
+    ]
+
+some_job : (s : Slot) → is_taken s ≡ true → (p : Job) × (job_of s ≡ Some p)
+some_job slot.Free is = let bad : false ≡ true = is in absurd (cc)
+some_job (slot.Waiting job) is = (job, refl)
+some_job (slot.Open job number) is = (job, refl)
+some_job (slot.Added job ticket number) is = (job, refl)
+
+pub some_taken : (slots : List Slot) (n : ℕ) (s : Slot) → slice_get slots n ≡ Some s → is_taken s ≡ true → count_by is_taken slots ≡ 0 → ⊥
+some_taken slots n s there is zero_taken = let p = some_job s is in none slots n p.0 zero_taken (sym (job_here slots n s there) ∙ p.1)
+
+none_of : (s : Slot) → is_taken s ≡ false → job_of s ≡ None
+none_of s is = ap job_of (free_of s is)
+
+pub none_more : (slots : List Slot) (n : ℕ) (s : Slot) → slice_get slots n ≡ Some s → is_taken s ≡ false → ((i : ℕ) (p : Job) → i < n → job_at slots i ≡ Some p → ⊥)
+    → (i : ℕ) (p : Job) → i < n + 1 → job_at slots i ≡ Some p → ⊥
+none_more slots n s there is before i p lt has =
+    elim (same_or_other i n) [
+      | inl e ↦ let bad : None ≡ Some p = sym (none_of s is) ∙ job_here slots n s there ∙ ap (job_at slots) (sym e) ∙ has in cc
+      | inr other ↦ before i p (omega (arith, lt, other)) has
+    ]
+
+waiting_same : (p q : Job) → Some (slot.Waiting p) ≡ Some (slot.Waiting q) → p ≡ q
+waiting_same p q is = cc
+
+-- a look that found no file
+pub looks_in_vain : (slots : List Slot) (at : ℕ) (p : Job) (answer : Result Kind FolderError) (old new : LedgerValue OutcomeValue) → slice_get slots at ≡ Some (slot.Waiting p)
+    → new ≡ record old { steps = looked answer p.name ∷ old.steps } → answer ≢ Ok kind.File → LooksInVain slots at old new
+looks_in_vain slots at p answer old new waits is vain job has =
+    (answer, ap (λ l. l.steps) is ∙ ap (λ j. looked answer j.name ∷ old.steps) (waiting_same p job (sym waits ∙ has)), vain)
+
+pub kind_same : (k : Kind) → ◌≡◌ {A = Result Kind FolderError} (Ok k) (Ok kind.File) → k ≡ kind.File
+kind_same k is = cc
+
+pub no_kind : (why : FolderError) → ◌≡◌ {A = Result Kind FolderError} (Err why) (Ok kind.File) → ⊥
+no_kind why is = cc

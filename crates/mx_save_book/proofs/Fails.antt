@@ -9,9 +9,11 @@ use Rattle.mx_save_rules.specs.Codes.{save_number}
 use Rattle.mx_save_rules.specs.Decisions.{IsDecision, has_no_file, is_success}
 use Rattle.mx_save_rules.specs.declared.code.SaveCode.{SaveCode}
 use Rattle.mx_save_rules.specs.declared.code.SaveCode.TheVariants as save
+use Rattle.mx_save_rules.specs.declared.decision.Decision.{Decision}
 use Rattle.mx_save_rules.specs.declared.decision.Decision.TheVariants as decision
+use Rattle.mx_save_book.specs.Jobs.{IsNeeded}
 
-ok_or_not : (c : Code) → (c ≡ codes.Ok) ⊎ ((c ≢ codes.Ok) × (code_number c ≢ 0))
+pub ok_or_not : (c : Code) → (c ≡ codes.Ok) ⊎ ((c ≢ codes.Ok) × (code_number c ≢ 0))
 ok_or_not codes.Ok = inl refl
 ok_or_not codes.UnsupportedProtocol = inr ((λ e. let bad : codes.UnsupportedProtocol ≡ codes.Ok = e in cc), λ e. omega (arith, e))
 ok_or_not codes.UrlMalformat = inr ((λ e. let bad : codes.UrlMalformat ≡ codes.Ok = e in cc), λ e. omega (arith, e))
@@ -49,3 +51,29 @@ fail_code c m status asked code d =
     by_tests ok false true false ex ey en = let bad : decision.Fail code ≡ decision.Save = d.saved ok (ap (λ b. b || asked) ex ∙ ey) en in absurd (cc)
     by_tests ok true y true ex ey en = let bad : decision.Fail code ≡ decision.Done = d.done ok (ap (λ b. b || asked) ex) en in absurd (cc)
     by_tests ok true y false ex ey en = let bad : decision.Fail code ≡ decision.Save = d.saved ok (ap (λ b. b || asked) ex) en in absurd (cc)
+
+-- what is done, or saved, has code 0
+pub done_ok : (c : Code) (m : Method) (status : ℕ) (asked : Bool) → IsDecision c m status asked decision.Done → c ≡ codes.Ok
+done_ok c m status asked d =
+    elim (ok_or_not c) [
+      | inl ok ↦ ok
+      | inr other ↦ let bad : decision.Done ≡ decision.Fail (save.Transfer c) = d.failed other.0 in absurd (cc)
+    ]
+
+pub save_ok : (c : Code) (m : Method) (status : ℕ) (asked : Bool) → IsDecision c m status asked decision.Save → c ≡ codes.Ok
+save_ok c m status asked d =
+    elim (ok_or_not c) [
+      | inl ok ↦ ok
+      | inr other ↦ let bad : decision.Save ≡ decision.Fail (save.Transfer c) = d.failed other.0 in absurd (cc)
+    ]
+
+-- what needs its body is saved, where its code is 0
+pub needed_save : (c : Code) (m : Method) (status : ℕ) (asked : Bool) (d : Decision) → IsDecision c m status asked d → IsNeeded d → c ≡ codes.Ok → d ≡ decision.Save
+needed_save c m status asked d is needed ok = by_tests (is_success status) asked (has_no_file m status) refl refl refl
+  where
+    by_tests : (x y n : Bool) → is_success status ≡ x → asked ≡ y → has_no_file m status ≡ n → d ≡ decision.Save
+    by_tests false false n ex ey en = absurd (needed.1 (is.refused ok ex ey))
+    by_tests false true true ex ey en = absurd (needed.0 (is.done ok (ap (λ b. b || asked) ex ∙ ey) en))
+    by_tests false true false ex ey en = is.saved ok (ap (λ b. b || asked) ex ∙ ey) en
+    by_tests true y true ex ey en = absurd (needed.0 (is.done ok (ap (λ b. b || asked) ex) en))
+    by_tests true y false ex ey en = is.saved ok (ap (λ b. b || asked) ex) en

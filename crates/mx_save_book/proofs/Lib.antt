@@ -1,9 +1,9 @@
-pub mod Bodies
 mod Books
 mod Calls
 mod Fails
 mod Holds
 pub mod Later
 mod Names
+mod Parts
 mod Slots
 mod Telling

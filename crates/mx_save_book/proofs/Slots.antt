@@ -52,7 +52,8 @@ weighs : (s : Slot) (p : Job) → job_of s ≡ Some p → weight s ≡ 1
 unfolding weight
 weighs slot.Free p is = absurd (cc)
 weighs (slot.Waiting job) p is = refl
-weighs (slot.Added job ticket) p is = refl
+weighs (slot.Open job number) p is = refl
+weighs (slot.Added job ticket number) p is = refl
 
 weighs_none : weight slot.Free ≡ 0
 unfolding weight

@@ -1,37 +1,41 @@
 -- The URLs of a run, and what each ended with.
-use Rattle.std.specs.Prelude.{IsUtf8, ◌≡◌, ◌≢◌, ◌⊎◌, ℕ, ◌+◌, ◌-◌, ◌^◌, ◌<◌, ◌≤◌, min, Bool, true, false, List, [], ◌∷◌, ◌++◌, length, map, take, count_by, Option, Some, None, IfSome, Ok, Err, slice_get, ⊤}
+use Rattle.std.specs.Prelude.{IsUtf8, ◌≡◌, ◌≢◌, ◌⊎◌, ℕ, ◌+◌, ◌-◌, ◌^◌, ◌<◌, ◌≤◌, ◌==◌, min, Bool, true, false, List, [], ◌∷◌, ◌++◌, length, map, take, count_by, Option, Some, None, IfSome, Ok, Err, slice_get, ⊤}
 use Rattle.std.specs.Option.{option_map_or}
 use Rattle.std.specs.List.{Contains, AllByRecursion}
 use Rattle.mx_request.specs.Request.{RequestValue, request_of}
 use Rattle.mx_request.specs.RequestError.{refusal_code}
 use Rattle.mx_request.specs.declared.error.RequestError.{RequestError}
 use Rattle.mx_request.specs.declared.error.RequestError.TheVariants as refusal
-use Rattle.mx_body.specs.Parts.{joined}
-use Rattle.mx_chain.specs.Outcomes.{OutcomeValue, IsOutcome, hops_of}
+use Rattle.mx_chain.specs.Outcomes.{OutcomeValue, IsEnd as IsTransferEnd, hops_of}
+use Rattle.mx_sink.specs.Sinks.{is_sink_code}
 use Rattle.mx_file_name.specs.Names.{base_name, count_of, names_of, numbered}
 use Rattle.mx_folder.specs.declared.errors.FolderError.{FolderError}
+use Rattle.mx_folder.specs.declared.steps.FolderCall.TheVariants as call
 use Rattle.mx_folder.specs.declared.steps.Kind.TheVariants as kind
 use Rattle.mx_folder.specs.declared.steps.Step.{Step}
-use Rattle.mx_folder.specs.declared.steps.Step.TheVariants.{Looked}
+use Rattle.mx_folder.specs.declared.steps.Step.TheVariants.{Looked, Refused}
 use Rattle.mx_folder.specs.Moments.{IsLater}
 use Rattle.mx_folder.specs.Steps.{refusals, refused_calls}
 use Rattle.mx_save.specs.Ledgers.{LedgerValue, IsFresh}
+use Rattle.mx_save.specs.Made.{MadeValue, without}
 use Rattle.mx_save.specs.Tries.{refusal_of, removal_of}
-use Rattle.mx_save.specs.Words.{unsaved_text}
+use Rattle.mx_save.specs.Words.{left_text, unsaved_text}
 use Rattle.mx_save.specs.declared.error.SaveError.{SaveError}
 use Rattle.mx_save.specs.declared.error.SaveError.TheVariants as unsaved
 use Rattle.mx_failure_text.specs.Words.{code_words}
 use Rattle.mx_save_rules.specs.Decisions.{IsDecision}
 use Rattle.mx_save_rules.specs.declared.code.SaveCode.TheVariants as save
+use Rattle.mx_save_rules.specs.declared.decision.Decision.{Decision}
 use Rattle.mx_save_rules.specs.declared.decision.Decision.TheVariants as decision
 use Rattle.mx_save_rules.specs.Ends.{EndValue, IsEnd, failed_end}
-use Rattle.mx_save_rules.specs.declared.end.Transferred.{Transferred}
+use Rattle.mx_save_rules.specs.Rules.{is_retried}
 use Rattle.mx_save_rules.specs.declared.end.Verdict.{Verdict}
 use Rattle.mx_save_rules.specs.declared.end.Verdict.TheVariants as verdict
-use Rattle.mx_save_book.specs.Bodies.{IsWholeBody}
-use Rattle.mx_save_book.specs.Framings.{TellsFraming}
-use Rattle.mx_save_book.specs.Said.{IsSaid, unsaved_code}
-use Rattle.mx_save_book.specs.declared.asking.Asking.{Asking}
+use Rattle.mx_save_end.specs.Bodies.{IsWholeBody}
+use Rattle.mx_save_end.specs.Heard.{HeardValue, body_length}
+use Rattle.mx_save_end.specs.Framings.{TellsFraming}
+use Rattle.mx_save_end.specs.Said.{IsSaid, IsUnsavedSaid, unsaved_code}
+use Rattle.mx_save_asking.specs.declared.asking.Asking.{Asking}
 use Rattle.mx_save_book.specs.declared.finish.NotEnded.{NotEnded}
 use Rattle.mx_save_book.specs.declared.finish.NotEnded.TheVariants as not_ended
 use Rattle.mx_save_book.specs.declared.job.Job.{Job}
@@ -53,12 +57,25 @@ pub record CanAsk (asking : Asking) (url : List ℕ) : Type 0 where
 abbrev pub job_of : Slot → Option Job
 job_of slot.Free = None
 job_of (slot.Waiting job) = Some job
-job_of (slot.Added job ticket) = Some job
+job_of (slot.Open job number) = Some job
+job_of (slot.Added job ticket number) = Some job
 
 abbrev pub is_taken : Slot → Bool
 is_taken slot.Free = false
 is_taken (slot.Waiting job) = true
-is_taken (slot.Added job ticket) = true
+is_taken (slot.Open job number) = true
+is_taken (slot.Added job ticket number) = true
+
+-- whether the part of this number is that of the URL
+abbrev pub has_part : ℕ → Slot → Bool
+has_part n slot.Free = false
+has_part n (slot.Waiting job) = false
+has_part n (slot.Open job number) = number == n
+has_part n (slot.Added job ticket number) = number == n
+
+-- the numbers of the parts in flight are those of the URLs in the slots, each as often
+abbrev pub AreOut : List ℕ → List Slot → Type 0
+AreOut out slots = (n : ℕ) → count_by (λ m. m == n) out ≡ count_by (has_part n) slots
 
 abbrev pub job_at : List Slot → ℕ → Option Job
 job_at slots i = option_map_or job_of (slice_get slots i) None
@@ -83,47 +100,29 @@ pub record IsReported (asking : Asking) (outcome : OutcomeValue) (e : EndValue) 
   pub framing : TellsFraming outcome.last.request.method outcome.wire e.framing
   pub tries : IsTry asking e.tries
 
--- the same as it is handed to an end, with the length of the body
-pub record IsTransferred (outcome : OutcomeValue) (number : ℕ) (t : Transferred) : Type 0 where
-  pub status : t.status ≡ outcome.status
-  pub size : t.length ≡ length (joined outcome.wire outcome.parts)
-  pub hops : t.hops ≡ min (length (hops_of outcome)) (2 ^ 32 - 1)
-  pub framing : TellsFraming outcome.last.request.method outcome.wire t.framing
-  pub tries : t.tries ≡ number
-
--- Private: the end that is made of what is reported of the outcome of that try
-abbrev pub IsMadeOf : OutcomeValue → ℕ → (Transferred → EndValue) → EndValue → Type 0
-IsMadeOf outcome tries make e = (t : Transferred) × IsTransferred outcome tries t × (e ≡ make t)
-
--- Private: with words of why nothing is saved of it
-abbrev pub IsMadeWithWords : OutcomeValue → ℕ → (Transferred → List ℕ → EndValue) → EndValue → Type 0
-IsMadeWithWords outcome tries make e = (text : List ℕ) × IsSaid outcome text × IsMadeOf outcome tries (λ t. make t text) e
-
 -- no transfer was made
 abbrev pub IsUntried : EndValue → Type 0
 IsUntried e = (e.status ≡ 0) × (e.hops ≡ 0) × (e.framing ≡ None) × (e.tries ≡ 0)
 
--- A URL that was reported as saved: under the name that was reported a whole body was saved, that of an outcome of a transfer of the URL's
--- request, whose status is one that is saved; and what was reported is that outcome's.
-pub record IsSavedEnd (asking : Asking) (saves : Saves) (e : EndValue) : Type 0 where
+-- A URL that was reported as saved: under the name that was reported a whole body was saved, that of this outcome of a transfer of the URL's
+-- request, whose status is one that is saved; and what was reported is the outcome's.
+pub record IsSavedEnd (asking : Asking) (saves : Saves) (outcome : OutcomeValue) (e : EndValue) : Type 0 where
   pub name : List ℕ
-  pub outcome : OutcomeValue
   pub file : e.file ≡ Some name
   pub saved : Contains saves (name, outcome)
   pub whole : IsWholeBody outcome
   pub asked : Asks asking e.url outcome.request
   pub decided : IsDecision outcome.code outcome.last.request.method outcome.status asking.content_on_error decision.Save
-  pub size : e.length ≡ length (joined outcome.wire outcome.parts)
+  pub size : e.length ≡ body_length outcome
   pub report : IsReported asking outcome e
 
--- A URL that was reported as done: the outcome of a transfer of its request is whole, and has nothing to save; and what was reported is that
+-- A URL that was reported as done: this outcome of a transfer of its request is whole, and has nothing to save; and what was reported is the
 -- outcome's.
-pub record IsDoneEnd (asking : Asking) (e : EndValue) : Type 0 where
-  pub outcome : OutcomeValue
-  pub is : IsOutcome outcome
+pub record IsDoneEnd (asking : Asking) (outcome : OutcomeValue) (e : EndValue) : Type 0 where
+  pub is : IsTransferEnd outcome
   pub asked : Asks asking e.url outcome.request
   pub decided : IsDecision outcome.code outcome.last.request.method outcome.status asking.content_on_error decision.Done
-  pub size : e.length ≡ length (joined outcome.wire outcome.parts)
+  pub size : e.length ≡ body_length outcome
   pub report : IsReported asking outcome e
 
 -- since the run began the folder was asked what is under the name, and found a regular file
@@ -131,6 +130,12 @@ pub record HasFound (l : LedgerValue OutcomeValue) (name : List ℕ) : Type 0 wh
   pub since : List Step
   pub steps : l.steps ≡ since ++ l.start
   pub found : Contains since (Looked name kind.File)
+
+-- since the run began the folder has refused each of these calls
+pub record HasRefused (l : LedgerValue OutcomeValue) (calls : List Step) : Type 0 where
+  pub since : List Step
+  pub steps : l.steps ≡ since ++ l.start
+  pub each : AllByRecursion (Contains (refused_calls since)) calls
 
 -- a URL that was skipped: that was asked for, and the folder had a file of the name that was reported
 pub record IsSkippedEnd (asking : Asking) (l : LedgerValue OutcomeValue) (e : EndValue) : Type 0 where
@@ -158,49 +163,100 @@ refused_end url why =
     failed_end url (save.Transfer (refusal_code why)) (record { status = 0; length = 0; framing = None; hops = 0; tries = 0 })
     (Some (code_words (refusal_code why)))
 
--- a URL that failed, since nothing is saved of the outcome of a transfer of its request: by the code of that, or by its status
-pub record IsFailedTransfer (asking : Asking) (e : EndValue) : Type 0 where
-  pub outcome : OutcomeValue
-  pub is : IsOutcome outcome
+-- A URL that failed, since nothing is saved of this outcome of a transfer of its request: by the code of that, or by its status. Where its part
+-- is left, the folder has refused to remove it since the run began, with this answer.
+pub record IsFailedTransfer (asking : Asking) (l : LedgerValue OutcomeValue) (outcome : OutcomeValue) (e : EndValue) : Type 0 where
+  pub is : IsTransferEnd outcome
   pub asked : Asks asking e.url outcome.request
   pub decided : IsDecision outcome.code outcome.last.request.method outcome.status asking.content_on_error (decision.Fail e.code)
   pub report : IsReported asking outcome e
   pub text : List ℕ
   pub said : IsSaid outcome text
-  pub words : e.error ≡ Some text
+  pub part : List ℕ
+  pub left : Option FolderError
+  pub words : e.error ≡ Some (text ++ left_text part left)
+  pub calls : HasRefused l (removal_of part left)
+
+-- A URL that failed, since the part of its transfer is left, though there was nothing to save, or it would have been tried again. The folder
+-- has refused to remove the part since the run began, with this answer.
+pub record IsLeftEnd (asking : Asking) (l : LedgerValue OutcomeValue) (outcome : OutcomeValue) (e : EndValue) : Type 0 where
+  pub is : IsTransferEnd outcome
+  pub asked : Asks asking e.url outcome.request
+  pub cause : IsDecision outcome.code outcome.last.request.method outcome.status asking.content_on_error decision.Done
+      ⊎ (is_retried asking.method outcome.code outcome.status ≡ true)
+  pub report : IsReported asking outcome e
+  pub text : List ℕ
+  pub said : IsUnsavedSaid outcome text
+  pub part : List ℕ
+  pub why : FolderError
+  pub code : e.code ≡ save.WriteError
+  pub words : e.error ≡ Some (text ++ left_text part (Some why))
+  pub calls : HasRefused l (Refused call.Remove part why ∷ [])
 
 -- the calls that the folder refused, by what is said of a body that wasn't saved: the one that failed, and the removal of a part that is left
 abbrev pub told_refusals : SaveError → Option (List ℕ) → Option FolderError → List Step
 told_refusals why None left = []
 told_refusals why (Some part) left = removal_of part left ++ refusal_of part why
 
--- A URL that failed, since a whole body that is to be saved wasn't: the folder has refused a call since the run began, and of that part the very
--- call that the words are of, with that answer; or memory was refused.
-pub record IsUnsavedEnd (asking : Asking) (l : LedgerValue OutcomeValue) (e : EndValue) : Type 0 where
-  pub outcome : OutcomeValue
-  pub whole : IsWholeBody outcome
+-- why the body of an outcome wasn't saved: it is whole, and was to be saved; or a write of it was refused, and the code of its transfer is that
+-- of content that couldn't be written, or of memory
+abbrev pub IsUnsavedFor : Asking → OutcomeValue → SaveError → Type 0
+IsUnsavedFor asking outcome why =
+    (IsWholeBody outcome × IsDecision outcome.code outcome.last.request.method outcome.status asking.content_on_error decision.Save)
+    ⊎ ((error : FolderError) × (why ≡ unsaved.Write error) × (is_sink_code outcome.code ≡ true))
+
+-- A URL that failed, since the body of this outcome wasn't saved: since the run began the folder has refused the very call of that part that the
+-- words are of, with that answer.
+pub record IsUnsavedEnd (asking : Asking) (l : LedgerValue OutcomeValue) (outcome : OutcomeValue) (e : EndValue) : Type 0 where
+  pub is : IsTransferEnd outcome
   pub asked : Asks asking e.url outcome.request
-  pub decided : IsDecision outcome.code outcome.last.request.method outcome.status asking.content_on_error decision.Save
   pub report : IsReported asking outcome e
   pub why : SaveError
-  pub part : Option (List ℕ)
+  pub known : why ≢ unsaved.OutOfMemory
+  pub cause : IsUnsavedFor asking outcome why
+  pub part : List ℕ
   pub left : Option FolderError
   pub code : e.code ≡ unsaved_code why
-  pub words : e.error ≡ Some (unsaved_text why part left)
+  pub words : e.error ≡ Some (unsaved_text why (Some part) left)
+  pub refused : refusals l.start < refusals l.steps
+  pub calls : HasRefused l (told_refusals why (Some part) left)
+
+-- A URL that failed, since no part could be made for its body, so that no transfer was made in this try: the folder has refused that since the
+-- run began, with this answer; or it was out of memory.
+pub record IsUnmadeEnd (asking : Asking) (l : LedgerValue OutcomeValue) (e : EndValue) : Type 0 where
+  pub can : CanAsk asking e.url
+  pub why : SaveError
+  pub part : Option (List ℕ)
+  pub code : e.code ≡ unsaved_code why
+  pub words : e.error ≡ Some (unsaved_text why part None)
   pub refused : why ≢ unsaved.OutOfMemory → refusals l.start < refusals l.steps
-  pub calls : AllByRecursion (Contains (refused_calls l.steps)) (told_refusals why part left)
+  pub calls : HasRefused l (told_refusals why part None)
+  pub untransferred : (e.status ≡ 0) × (e.hops ≡ 0) × (e.framing ≡ None)
+  pub tries : IsTry asking e.tries
 
 -- rule save-failures: Of each URL that failed it is said why: of a transfer what its bytes show, of a whole response that its status isn't
 -- 2xx.
 --
+-- a URL that failed with its transfer, which had this outcome: with which cause
+abbrev pub IsFailedBy : Asking → LedgerValue OutcomeValue → OutcomeValue → EndValue → Type 0
+IsFailedBy asking l outcome e = IsFailedTransfer asking l outcome e ⊎ IsUnsavedEnd asking l outcome e ⊎ IsLeftEnd asking l outcome e
+
+-- what was reported of a URL whose transfer had this outcome holds
+abbrev pub HoldsBy : Asking → LedgerValue OutcomeValue → OutcomeValue → EndValue → Verdict → Type 0
+HoldsBy asking l outcome e verdict.Saved = IsSavedEnd asking l.entries outcome e
+HoldsBy asking l outcome e verdict.Done = IsDoneEnd asking outcome e
+HoldsBy asking l outcome e verdict.Skipped = ⊥
+HoldsBy asking l outcome e verdict.Failed = IsFailedBy asking l outcome e
+
+-- rule save-failures
 -- a URL that failed: with which cause
 abbrev pub IsFailedEnd : Asking → LedgerValue OutcomeValue → EndValue → Type 0
-IsFailedEnd asking l e = IsRefusedEnd asking e ⊎ IsFailedTransfer asking e ⊎ IsUnsavedEnd asking l e
+IsFailedEnd asking l e = IsRefusedEnd asking e ⊎ IsUnmadeEnd asking l e ⊎ ((outcome : OutcomeValue) × IsFailedBy asking l outcome e)
 
 -- what was reported of a URL holds
 abbrev pub HoldsOf : Asking → LedgerValue OutcomeValue → EndValue → Verdict → Type 0
-HoldsOf asking l e verdict.Saved = IsSavedEnd asking l.entries e
-HoldsOf asking l e verdict.Done = IsDoneEnd asking e
+HoldsOf asking l e verdict.Saved = (outcome : OutcomeValue) × IsSavedEnd asking l.entries outcome e
+HoldsOf asking l e verdict.Done = (outcome : OutcomeValue) × IsDoneEnd asking outcome e
 HoldsOf asking l e verdict.Skipped = IsSkippedEnd asking l e
 HoldsOf asking l e verdict.Failed = IsFailedEnd asking l e
 
@@ -290,11 +346,12 @@ pub record IsBook (b : State) (n : ℕ) (names : List (List ℕ)) : Type 0 where
   pub owed : length b.ledger.entries ≡ count_by is_told_saved b.told
 
 -- What holds of every book, also of a run that has stopped: what was reported, and each body that was saved is whole. Unless it has, all else
--- holds, too.
+-- holds, too, and the parts in flight are those of the URLs in the slots.
 pub record IsAccount (b : State) (is_stopped : Bool) (n : ℕ) (names : List (List ℕ)) : Type 0 where
   pub told : AllByRecursion (IsTold b.asking b.urls b.ledger) b.told
   pub whole : AreWhole b.ledger.entries
   pub going : is_stopped ≡ false → IsBook b n names
+  pub out : is_stopped ≡ false → AreOut b.ledger.out b.slots
 
 -- more was done to the folder of the same run
 pub record IsLaterLedger (old new : LedgerValue OutcomeValue) : Type 0 where
@@ -316,7 +373,47 @@ GrowsFor name v old new =
 abbrev pub MayName : List ℕ → Option (List ℕ) → Type 0
 MayName name file = IfSome file (λ n. n ≡ name)
 
--- a URL that has no end comes back as it was, where memory wasn't refused and it may be tried again
+-- Private: it is of a transfer of the URL's request, and its decision is by what is asked
+pub record IsHeardOf (asking : Asking) (job : Job) (h : HeardValue) : Type 0 where
+  pub asked : Asks asking job.url.items h.outcome.request
+  pub decided : IsDecision h.outcome.code h.outcome.last.request.method h.outcome.status asking.content_on_error h.decision
+  pub once : IsTry asking h.told.tries
+
+-- Private: a refused write is why nothing is saved: else the response would be done, or fail with its status
+abbrev pub IsNeeded : Decision → Type 0
+IsNeeded d = (d ≢ decision.Done) × (d ≢ decision.Fail save.HttpReturnedError)
+
+-- Private: the part is one of those in flight
+pub record IsPartOf (l : LedgerValue OutcomeValue) (made : MadeValue) : Type 0 where
+  pub process : made.process ≡ l.process
+  pub out : Contains l.out made.number
+
+-- rule file-no-part-left
+-- no part more is left, or one that these words name
+abbrev pub TellsLeft : LedgerValue OutcomeValue → LedgerValue OutcomeValue → Option (List ℕ) → Type 0
+TellsLeft old new words =
+    (new.left ≡ old.left) ⊎ ((part before after : List ℕ) × (new.left ≡ part ∷ old.left) × (words ≡ Some (before ++ (part ++ after))))
+
+-- Private: what a URL ended with whose transfer had this outcome, under its name, by what was done to the folder: that holds
+pub record IsEnding (asking : Asking) (job : Job) (outcome : OutcomeValue) (old new : LedgerValue OutcomeValue) (e : EndValue) : Type 0 where
+  pub url : e.url ≡ job.url.items
+  pub grows : GrowsFor job.name e.verdict old.entries new.entries
+  pub name : MayName job.name e.file
+  pub holds : HoldsBy asking new outcome e e.verdict
+  pub left : TellsLeft old new e.error
+
+-- the folder refused to remove one part more
+abbrev pub LeavesPart : LedgerValue OutcomeValue → LedgerValue OutcomeValue → Type 0
+LeavesPart old new = (part : List ℕ) × (new.left ≡ part ∷ old.left)
+
+-- Private: a URL that has no end comes back as it was, where it is to be tried again
 abbrev pub HandsBack : Job → Bool → NotEnded → Type 0
 HandsBack job may_retry not_ended.OutOfMemory = ⊤
-HandsBack job may_retry (not_ended.Unopened back) = (back ≡ job) × (may_retry ≡ true)
+HandsBack job may_retry not_ended.NoPart = ⊤
+HandsBack job may_retry (not_ended.Again back) = (back ≡ job) × (may_retry ≡ true)
+
+-- Private: and its part has come back, and was removed
+abbrev pub ComesBack : ℕ → LedgerValue OutcomeValue → LedgerValue OutcomeValue → NotEnded → Type 0
+ComesBack number old new not_ended.OutOfMemory = ⊤
+ComesBack number old new not_ended.NoPart = ⊤
+ComesBack number old new (not_ended.Again back) = (new.out ≡ without number old.out) × (new.left ≡ old.left)

@@ -1,16 +1,26 @@
 //! The URLs of a run, from their reading to their ends.
-ghost use Rattle.std.specs.Prelude.{◌≡◌, ◌≢◌, ◌+◌, ◌<◌, ◌^◌, All, ◌++◌, ◌∷◌, [], true, false, if◌then◌else◌, count_by, IfErr, IfOk, OnErr, OnOk, Some, None, IsSome, IfSome, MatchOption, MatchResult, Ok, Err, length, option_map, slice_get, slice_set};
-ghost use Rattle.std.specs.List.{AllByRecursion};
+ghost use Rattle.std.specs.Prelude.{◌≡◌, ◌≢◌, ◌⊎◌, ◌+◌, ◌<◌, ◌≤◌, ◌^◌, ℕ, All, ◌++◌, ◌∷◌, [], true, false, if◌then◌else◌, count_by, IfErr, IfNone, IfOk, OnErr, OnOk, Some, None, IsSome, IsTrue, ◌↔◌, IfSome, MatchOption, MatchResult, Ok, Err, length, option_map, slice_get, slice_set};
+ghost use Rattle.std.specs.List.{AllByRecursion, Contains};
+ghost use Rattle.mx_types.specs.declared.code.Code.TheVariants as code;
+ghost use Rattle.mx_types.specs.declared.names.Ticket.{Ticket as OneTicket};
 ghost use Rattle.mx_request.specs.Request.{IsRequest};
-ghost use Rattle.mx_save_rules.specs.Ends.{skipped_end};
 ghost use Rattle.mx_request.specs.declared.error.RequestError.TheVariants as refusal;
-ghost use Rattle.mx_save_book.specs.Jobs.{AreWhole, Asks, CanAsk, IsLaterLedger, IsTold, Refuses, is_taken, job_at, refused_end};
-ghost use Rattle.mx_save_book.specs.Books.{Delays, HasNoneAdded, HaveEnded, IsAdded, IsClosed, IsFoundAt, IsFreshBook, IsJobFor, IsPutBack, IsSameRun, LeavesSlot, Retries, StandsAt, WaitsAgain, awaits_at, delay_of, next_try};
+ghost use Rattle.mx_file_name.specs.Names.{part_of};
+ghost use Rattle.mx_folder.specs.declared.errors.FolderError.TheVariants as folder;
+ghost use Rattle.mx_folder.specs.declared.steps.Kind.TheVariants as kinds;
+ghost use Rattle.mx_folder.specs.Steps.{refusals};
+ghost use Rattle.mx_part_sink.specs.PartSinks.{empty_sink};
+ghost use Rattle.mx_save.specs.Made.{without};
+ghost use Rattle.mx_save.specs.Tries.{IsRefusedBy};
+ghost use Rattle.mx_save.specs.declared.error.SaveError.TheVariants as errors;
+ghost use Rattle.mx_save_rules.specs.Ends.{skipped_end};
+ghost use Rattle.mx_save_book.specs.Jobs.{AreWhole, Asks, CanAsk, HasRefused, IsLaterLedger, IsTold, LeavesPart, Refuses, is_taken, job_at, refused_end, told_refusals};
+ghost use Rattle.mx_save_book.specs.Books.{Begins, Delays, HasNoneAdded, HasOpen, HaveEnded, IsAdded, IsAwaited, IsClosed, IsEndedBy, IsFoundAt, IsFreshBook, IsJobFor, IsOpened, IsOut, IsRefusedNow, IsSameRun, IsSkippedNow, IsUnmadeNow, LeavesSlot, LooksInVain, Retries, Skips, StandsAt, TellsNone, Waits, WaitsAgain, WaitsOn, awaits_at, delay_of, next_job};
 ghost use Rattle.mx_save_book.specs.Lines.{last_of, tally_of};
+ghost use Rattle.mx_save_book.specs.declared.job.Job.{Job as OneJob};
 ghost use Rattle.mx_save_book.specs.declared.job.Slot.TheVariants as slot;
 
-use crate::asking::Asking;
-use crate::body::WholeBody;
+use crate::begun::Begun;
 use crate::finish::{NotEnded, finish};
 use crate::job::{Job, Slot};
 use crate::lines::Lines;
@@ -18,11 +28,15 @@ use crate::tally::Tally;
 use mx_chain::Outcome;
 use mx_failure_text::code_words;
 use mx_file_name::Names;
-use mx_folder::{Folder, Kind};
+use mx_folder::{Folder, FolderError, Kind};
+use mx_part_sink::PartSink;
 use mx_request::{Request, RequestError};
 use mx_run_io::Stop;
-use mx_save::Ledger;
+use mx_save::{Ledger, SaveError, Unsaved};
+use mx_save_asking::Asking;
+use mx_save_end::{Spool, WholeBody, unsaved_end};
 use mx_save_rules::{End, SaveCode, Transferred, delay_ms, is_retried};
+use mx_sink::{Delivery, Outlet};
 use mx_types::{Code, History, OutOfMemory, Ticket};
 use std::alloc::{AllocError, Global};
 use std::io::Write;
@@ -38,7 +52,7 @@ use std::{mem, str};
 pub struct Book<F: Folder, W: Write> {
     alloc: Global,
     asking: Asking,
-    ledger: Ledger<F, WholeBody>,
+    ledger: Ledger<F, WholeBody<Spool<F>>>,
     lines: Lines<W>,
     names: Names,
     read: u64,
@@ -81,16 +95,16 @@ fn one_more(count: u64) -> Option<u64>
     count.checked_add(1)
 }
 
-// A URL of which no transfer was made.
-fn untried() -> Transferred
-    ensures { result ≡ record { status = 0; length = 0; framing = None; hops = 0; tries = 0 } }
+// A URL of which no transfer was made in that try.
+fn untransferred(tries: u32) -> Transferred
+    ensures { result ≡ record { status = 0; length = 0; framing = None; hops = 0; tries = tries } }
 {
     Transferred {
         status: 0,
         length: 0,
         framing: None,
         hops: 0,
-        tries: 0,
+        tries,
     }
 }
 
@@ -100,7 +114,7 @@ fn refused(alloc: Global, url: Vec<u8>, why: RequestError) -> Result<End, AllocE
 {
     let code = why.code();
     let words = String::from_str(alloc, code_words(code))?;
-    Ok(End::failed(url, SaveCode::Transfer(code), untried(), Some(words)))
+    Ok(End::failed(url, SaveCode::Transfer(code), untransferred(0), Some(words)))
 }
 
 impl<F: Folder, W: Write> Book<F, W> {
@@ -108,11 +122,12 @@ impl<F: Folder, W: Write> Book<F, W> {
     pub fn new(
         alloc: Global,
         asking: Asking,
-        ledger: Ledger<F, WholeBody>,
+        ledger: Ledger<F, WholeBody<Spool<F>>>,
         lines: Lines<W>,
         slots: Vec<Slot>,
     ) -> Book<F, W>
         requires fresh { (ledger.entries ≡ []) × (lines.told ≡ []) }
+        requires none_out { ledger.out ≡ [] }
         requires free { All (λ s. s ≡ slot.Free) slots.items }
         ensures { IsFreshBook asking ledger lines slots.items result }
     {
@@ -136,6 +151,7 @@ impl<F: Folder, W: Write> Book<F, W> {
         requires why { Refuses self.old.asking url.items why }
         ensures urls { self.new.urls ≡ self.old.urls ++ url.items ∷ [] }
         ensures slots { OnOk result (self.new.slots ≡ self.old.slots) }
+        ensures told { OnOk result (IsRefusedNow self.old self.new url.items) }
         ensures going { OnOk result (self.new.is_stopped ≡ false) }
         ensures stopped { OnErr result (self.new.is_stopped ≡ true) }
         ensures run { IsSameRun self.old self.new }
@@ -159,6 +175,7 @@ impl<F: Folder, W: Write> Book<F, W> {
         requires free { slice_get self.old.slots at ≡ Some slot.Free }
         ensures urls { self.new.urls ≡ self.old.urls ++ url.items ∷ [] }
         ensures slots { OnOk result (StandsAt self.old.slots self.new.slots at url.items) }
+        ensures told { TellsNone self.old self.new }
         ensures going { OnOk result (self.new.is_stopped ≡ false) }
         ensures stopped { OnErr result (self.new.is_stopped ≡ true) }
         ensures run { IsSameRun self.old self.new }
@@ -189,6 +206,7 @@ impl<F: Folder, W: Write> Book<F, W> {
         ensures urls { self.new.urls ≡ self.old.urls ++ url.items ∷ [] }
         ensures stands { IfOk result (λ asked. MatchOption asked (self.new.slots ≡ self.old.slots) (λ _. StandsAt self.old.slots self.new.slots at url.items)) }
         ensures asked { IfOk result (λ asked. IfSome asked (λ r. Asks self.old.asking url.items r × IsRequest r)) }
+        ensures told { IfOk result (λ asked. MatchOption asked (IsRefusedNow self.old self.new url.items) (λ _. TellsNone self.old self.new)) }
         ensures going { OnOk result (self.new.is_stopped ≡ false) }
         ensures stopped { OnErr result (self.new.is_stopped ≡ true) }
         ensures run { IsSameRun self.old self.new }
@@ -204,10 +222,11 @@ impl<F: Folder, W: Write> Book<F, W> {
         }
     }
 
-    /// The request of the URL that waits in that slot, once more. An error comes where a growth was refused, or none waits there, and may come
-    /// where the run has stopped.
+    /// The request of the URL that waits in that slot, once more. No clause says when an error comes: it does when out of memory, or where no
+    /// URL waits there, and it may where the run has stopped.
     pub fn request(&self, at: usize) -> Result<Request, OutOfMemory>
-        ensures { IfOk result (λ r. IsJobFor self.now.asking self.now.slots at r × IsRequest r) }
+        ensures request { IfOk result (λ r. IsJobFor self.now.asking self.now.slots at r × IsRequest r) }
+        ensures waits { OnOk result (Waits self.now.slots at) }
     {
         let Some(job) = waiting_job(self.slots.as_slice(), at) else {
             return Err(OutOfMemory);
@@ -222,10 +241,12 @@ impl<F: Folder, W: Write> Book<F, W> {
         }
     }
 
-    /// Ends the URL in that slot, which waits, without fetching it, where a regular file has its name and such are skipped.
+    /// Where URLs are skipped whose file is there, looks for a regular file of the name of the URL that waits in that slot. Where it finds one,
+    /// the URL has ended without a transfer, and that is reported.
     pub fn skip(&mut self, at: usize) -> Result<bool, Stop>
         requires going { self.old.is_stopped ≡ false }
         ensures slots { IfOk result (λ skipped. self.new.slots ≡ (if skipped then slice_set self.old.slots at slot.Free else self.old.slots)) }
+        ensures told { IfOk result (Skips self.old self.new at) }
         ensures urls { self.new.urls ≡ self.old.urls }
         ensures going { OnOk result (self.new.is_stopped ≡ false) }
         ensures stopped { OnErr result (self.new.is_stopped ≡ true) }
@@ -247,6 +268,7 @@ impl<F: Folder, W: Write> Book<F, W> {
         requires asked { self.old.asking.skip_existing ≡ true }
         requires found { IsFoundAt self.old.slots at self.old.ledger }
         ensures slots { OnOk result (self.new.slots ≡ slice_set self.old.slots at slot.Free) }
+        ensures told { OnOk result (IsSkippedNow self.old self.new at) }
         ensures urls { self.new.urls ≡ self.old.urls }
         ensures going { OnOk result (self.new.is_stopped ≡ false) }
         ensures stopped { OnErr result (self.new.is_stopped ≡ true) }
@@ -263,15 +285,132 @@ impl<F: Folder, W: Write> Book<F, W> {
         Ok(())
     }
 
-    /// Notes that the transfer of the URL in that slot is added under this ticket.
+    /// Makes a part for the body of the URL that waits in that slot: a delivery with it comes back, which got nothing yet and has the limit that
+    /// is asked for, and its number. Where the folder refuses to make the part, or is out of memory, the URL has ended, and that is reported. Where
+    /// the folder refuses since too many files are open, the URL waits: for the same try while a transfer is added, which has files open itself;
+    /// and else for a further try, if it has tries left, and the milliseconds until then come back.
+    pub fn begin(&mut self, at: usize) -> Result<Begun<Spool<F>>, Stop>
+        requires going { self.old.is_stopped ≡ false }
+        requires waits { Waits self.old.slots at }
+        ensures begun { IfOk result (Begins self.old self.new at) }
+        ensures urls { self.new.urls ≡ self.old.urls }
+        ensures process { self.new.ledger.process ≡ self.old.ledger.process }
+        ensures going { OnOk result (self.new.is_stopped ≡ false) }
+        ensures stopped { OnErr result (self.new.is_stopped ≡ true) }
+        ensures run { IsSameRun self.old self.new }
+    {
+        match open(self.alloc, &mut self.ledger, self.asking.most_bytes) {
+            Ok((spool, number)) => {
+                set_open(&mut self.slots, at, number);
+                Ok(Begun::Spool(spool, number))
+            }
+            Err(unsaved) => {
+                if self.is_busy(unsaved.error) {
+                    drop(unsaved);
+                    return Ok(Begun::Busy);
+                }
+                match self.unmade(at, unsaved) {
+                    Ok(Some(delay)) => Ok(Begun::Waits(delay)),
+                    Ok(None) => Ok(Begun::Ended),
+                    Err(stop) => Err(stop),
+                }
+            }
+        }
+    }
+
+    // rule file-descriptors
+    // Whether too many files are open to make a part, while transfers are added, which have files open.
+    fn is_busy(&self, error: SaveError) -> bool
+        ensures limit { result ≡ true → error ≡ errors.Create folder.TooManyOpen }
+        ensures busy { result ≡ true → ¬ (HasNoneAdded self.now.slots) }
+        ensures idle { result ≡ false → error ≡ errors.Create folder.TooManyOpen → HasNoneAdded self.now.slots }
+    {
+        is_file_limit(error) && !self.has_none_added()
+    }
+
+    // rule file-descriptors
+    // How many milliseconds the URL in that slot waits for which no part could be made, if it is to be tried again.
+    fn file_delay(&self, at: usize, error: SaveError) -> Option<u64>
+        ensures limit { IsSome result → error ≡ errors.Create folder.TooManyOpen }
+        ensures delays { error ≡ errors.Create folder.TooManyOpen → Delays self.now.asking self.now.slots at code.CouldntConnect 0 result }
+    {
+        if is_file_limit(error) {
+            return self.delay(at, Code::CouldntConnect, 0);
+        }
+        None
+    }
+
+    // Ends the URL in that slot, for which no part could be made; or lets it wait, where too many files are open.
+    fn unmade(&mut self, at: usize, unsaved: Unsaved) -> Result<Option<u64>, Stop>
+        requires going { self.old.is_stopped ≡ false }
+        requires waits { Waits self.old.slots at }
+        requires left { unsaved.left ≡ None }
+        requires cause { unsaved.error ≢ errors.OutOfMemory → refusals self.old.ledger.start < refusals self.old.ledger.steps }
+        requires calls { HasRefused self.old.ledger (told_refusals unsaved.error unsaved.part None) }
+        ensures left { IfOk result (LeavesSlot self.old.slots self.new.slots at) }
+        ensures delays { IfOk result (λ delay. IsSome delay → Delays self.old.asking self.old.slots at code.CouldntConnect 0 delay) }
+        ensures limit { IfOk result (λ delay. IsSome delay → unsaved.error ≡ errors.Create folder.TooManyOpen) }
+        ensures told { IfOk result (λ delay. MatchOption delay (IsUnmadeNow self.old self.new at unsaved.error unsaved.part) (λ _. TellsNone self.old self.new)) }
+        ensures ledger { self.new.ledger ≡ self.old.ledger }
+        ensures urls { self.new.urls ≡ self.old.urls }
+        ensures going { OnOk result (self.new.is_stopped ≡ false) }
+        ensures stopped { OnErr result (self.new.is_stopped ≡ true) }
+        ensures run { IsSameRun self.old self.new }
+    {
+        self.is_stopped = true;
+        let delay = self.file_delay(at, unsaved.error);
+        if delay.is_some() {
+            set_waiting(&mut self.slots, at);
+            self.is_stopped = false;
+            return Ok(delay);
+        }
+        let Some(job) = take_job(&mut self.slots, at) else {
+            unreachable!();
+        };
+        let place = job.place;
+        let end = unsaved_end(self.alloc, job.url, untransferred(job.tries), &unsaved)?;
+        self.lines.tell(place, end)?;
+        self.is_stopped = false;
+        Ok(None)
+    }
+
+    /// Notes that the transfer of the URL in that slot is added under this ticket. It writes the part that was made for the URL.
     pub fn add(&mut self, at: usize, ticket: Ticket)
-        requires there { IsSome (job_at self.old.slots at) }
+        requires begun { HasOpen self.old.slots at }
         ensures added { IsAdded self.old.slots self.new.slots at ticket }
         ensures urls { self.new.urls ≡ self.old.urls }
         ensures going { self.new.is_stopped ≡ self.old.is_stopped }
         ensures run { IsSameRun self.old self.new }
+        ensures ledger { self.new.ledger ≡ self.old.ledger }
     {
         set_added(&mut self.slots, at, ticket);
+    }
+
+    // rule file-no-part-left
+    /// Takes a delivery back to which no transfer was added: its part is removed, and the URL in that slot waits for the same try. The part is
+    /// left only where the folder refuses to remove it, and nothing is printed of that. `NoMessage` comes where the part isn't the URL's, which
+    /// no clause says.
+    pub fn put_away(&mut self, at: usize, spool: Spool<F>) -> Result<(), Stop>
+        requires going { self.old.is_stopped ≡ false }
+        requires begun { HasOpen self.old.slots at }
+        ensures waits { OnOk result (WaitsOn self.old.slots self.new.slots at) }
+        ensures left { (self.new.ledger.left ≡ self.old.ledger.left) ⊎ LeavesPart self.old.ledger self.new.ledger }
+        ensures lines { self.new.lines ≡ self.old.lines }
+        ensures urls { self.new.urls ≡ self.old.urls }
+        ensures going { OnOk result (self.new.is_stopped ≡ false) }
+        ensures stopped { OnErr result (self.new.is_stopped ≡ true) }
+        ensures run { IsSameRun self.old self.new }
+    {
+        self.is_stopped = true;
+        let Some((job, number)) = take_open(&mut self.slots, at) else {
+            unreachable!();
+        };
+        if !discard(&mut self.ledger, spool, number) {
+            return Err(Stop::NoMessage);
+        }
+        put(&mut self.slots, at, job);
+        self.is_stopped = false;
+        Ok(())
     }
 
     /// Whether the addition of this ticket is that of the URL in that slot.
@@ -284,54 +423,27 @@ impl<F: Folder, W: Write> Book<F, W> {
         }
     }
 
-    /// Ends the URL in that slot, whose transfer ended so: its body is saved if it should be, and that is reported. Where it is to be tried
-    /// again, it waits, and the milliseconds until then come back: by its code and its status, while it has tries left; or where its body was
-    /// to be saved and the folder refused a call, as after a connection that couldn't be made.
-    pub fn close(&mut self, at: usize, outcome: Outcome) -> Result<Option<u64>, Stop>
+    /// Ends the URL in that slot, whose transfer had this outcome: what is reported holds of that, and a body that is reported as saved is saved.
+    /// Where the URL is to be tried again, by the code and the status, while it has tries left, its part is removed, nothing is reported, and the
+    /// milliseconds until then come back. Where the folder refuses to remove the part the URL has ended, and the report names the part. An error
+    /// stops the run: `NoMessage` comes where the delivery isn't that of the URL's part, which no clause says.
+    pub fn close(&mut self, at: usize, outcome: Outcome<Spool<F>>) -> Result<Option<u64>, Stop>
         requires going { self.old.is_stopped ≡ false }
+        requires added { IsAwaited self.old.slots at }
         requires asked { IsJobFor self.old.asking self.old.slots at outcome.request }
         ensures slots { OnOk result (IsClosed self.old.slots self.new.slots at) }
         ensures left { IfOk result (LeavesSlot self.old.slots self.new.slots at) }
         ensures retried { IfOk result (Retries self.old self.new at outcome) }
-        ensures urls { self.new.urls ≡ self.old.urls }
-        ensures going { OnOk result (self.new.is_stopped ≡ false) }
-        ensures stopped { OnErr result (self.new.is_stopped ≡ true) }
-        ensures run { IsSameRun self.old self.new }
-    {
-        if let Some(delay) = self.delay(at, outcome.code(), outcome.status()) {
-            drop(outcome);
-            set_waiting(&mut self.slots, at);
-            return Ok(Some(delay));
-        }
-        self.end_with(at, outcome)
-    }
-
-    // How many milliseconds the URL in that slot waits, where it ended with that code and status and is to be tried again.
-    fn delay(&self, at: usize, code: Code, status: u16) -> Option<u64>
-        ensures { Delays self.now.asking self.now.slots at code status result }
-    {
-        let job = self.slots.get(at)?.job()?;
-        delay_of(&self.asking, job.tries, code, status)
-    }
-
-    // rule file-descriptors, unproved: A URL for whose body no file can be opened, since too many are open, is tried again as one is whose
-    // connection couldn't be made.
-    // Ends the URL in that slot, whose transfer ended so; or lets it wait, where no file could be opened for its body.
-    fn end_with(&mut self, at: usize, outcome: Outcome) -> Result<Option<u64>, Stop>
-        requires going { self.old.is_stopped ≡ false }
-        requires asked { IsJobFor self.old.asking self.old.slots at outcome.request }
-        requires none { Delays self.old.asking self.old.slots at outcome.code outcome.status None }
-        ensures slots { OnOk result (IsClosed self.old.slots self.new.slots at) }
-        ensures left { IfOk result (LeavesSlot self.old.slots self.new.slots at) }
-        ensures retried { IfOk result (Retries self.old self.new at outcome) }
+        ensures removed { IfOk result (λ delay. IfSome delay (λ _. self.new.ledger.left ≡ self.old.ledger.left)) }
+        ensures told { IfOk result (λ delay. MatchOption delay (IsEndedBy self.old self.new at outcome) (λ _. TellsNone self.old self.new)) }
         ensures urls { self.new.urls ≡ self.old.urls }
         ensures going { OnOk result (self.new.is_stopped ≡ false) }
         ensures stopped { OnErr result (self.new.is_stopped ≡ true) }
         ensures run { IsSameRun self.old self.new }
     {
         self.is_stopped = true;
-        let delay = self.delay(at, Code::CouldntConnect, outcome.status());
-        let Some(job) = take_job(&mut self.slots, at) else {
+        let delay = self.delay(at, outcome.code(), outcome.status());
+        let Some((job, number)) = take_open(&mut self.slots, at) else {
             unreachable!();
         };
         let place = job.place;
@@ -341,6 +453,7 @@ impl<F: Folder, W: Write> Book<F, W> {
             &self.asking,
             &mut self.ledger,
             job,
+            number,
             outcome,
             may_retry,
         ) {
@@ -349,13 +462,22 @@ impl<F: Folder, W: Write> Book<F, W> {
                 self.is_stopped = false;
                 Ok(None)
             }
-            Err(NotEnded::Unopened(job)) => {
-                put_back(&mut self.slots, at, job);
+            Err(NotEnded::Again(job)) => {
+                put(&mut self.slots, at, again(job));
                 self.is_stopped = false;
                 Ok(delay)
             }
             Err(NotEnded::OutOfMemory) => Err(Stop::OutOfMemory),
+            Err(NotEnded::NoPart) => Err(Stop::NoMessage),
         }
+    }
+
+    // How many milliseconds the URL in that slot waits, where it ended with that code and status and is to be tried again.
+    fn delay(&self, at: usize, code: Code, status: u16) -> Option<u64>
+        ensures { Delays self.now.asking self.now.slots at code status result }
+    {
+        let job = self.slots.get(at)?.job()?;
+        delay_of(&self.asking, job.tries, code, status)
     }
 
     /// How many URLs were read.
@@ -381,22 +503,25 @@ impl<F: Folder, W: Write> Book<F, W> {
 
     /// A slot that is free, if there is one.
     pub fn free_slot(&self) -> Option<usize>
-        ensures { IfSome result (λ at. slice_get self.now.slots at ≡ Some slot.Free) }
+        ensures free { IfSome result (λ at. slice_get self.now.slots at ≡ Some slot.Free) }
+        ensures none { IfNone result ((i : ℕ) → slice_get self.now.slots i ≢ Some slot.Free) }
     {
-        for (at, slot) in self.slots.iter().enumerate() {
-            if matches!(slot, Slot::Free) {
+        let mut at = 0usize;
+        for slot in &self.slots {
+            if !slot.is_taken() {
                 return Some(at);
             }
+            at += 1;
         }
         None
     }
 
     /// Whether no transfer is added.
     pub fn has_none_added(&self) -> bool
-        ensures { result ≡ true → HasNoneAdded self.now.slots }
+        ensures { IsTrue result ↔ HasNoneAdded self.now.slots }
     {
         for slot in &self.slots {
-            if matches!(slot, Slot::Added(_, _)) {
+            if !slot.is_unadded() {
                 return false;
             }
         }
@@ -405,10 +530,10 @@ impl<F: Folder, W: Write> Book<F, W> {
 
     /// Whether all URLs that were read have ended.
     pub fn is_empty(&self) -> bool
-        ensures { result ≡ true → count_by is_taken self.now.slots ≡ 0 }
+        ensures { IsTrue result ↔ (count_by is_taken self.now.slots ≡ 0) }
     {
         for slot in &self.slots {
-            if slot.job().is_some() {
+            if slot.is_taken() {
                 return false;
             }
         }
@@ -416,12 +541,13 @@ impl<F: Folder, W: Write> Book<F, W> {
     }
 
     /// Ends the run.
-    pub fn end(self) -> (Ledger<F, WholeBody>, Lines<W>)
+    pub fn end(self) -> (Ledger<F, WholeBody<Spool<F>>>, Lines<W>)
         ensures ledger { result.0 ≡ self.ledger }
         ensures lines { result.1 ≡ self.lines }
         ensures told { AllByRecursion (IsTold self.asking self.urls self.ledger) self.lines.told }
         ensures whole { AreWhole self.ledger.entries }
         ensures ended { self.is_stopped ≡ false → count_by is_taken self.slots ≡ 0 → HaveEnded self.asking self.urls self.ledger self.lines.told }
+        ensures none_out { self.is_stopped ≡ false → count_by is_taken self.slots ≡ 0 → self.ledger.out ≡ [] }
     {
         (self.ledger, self.lines)
     }
@@ -462,7 +588,9 @@ fn build(alloc: Global, asking: &Asking, url: &[u8]) -> Result<Request, RequestE
 
 // The URL that waits in a slot.
 fn waiting_job(slots: &[Slot], at: usize) -> Option<&Job>
-    ensures { IfSome result (λ job. job_at slots.now at ≡ Some job.now) }
+    ensures job { IfSome result (λ job. job_at slots.now at ≡ Some job.now) }
+    ensures waits { IfSome result (λ job. slice_get slots.now at ≡ Some (slot.Waiting job.now)) }
+    ensures none { IfNone result ((job : OneJob) → slice_get slots.now at ≢ Some (slot.Waiting job)) }
 {
     match slots.get(at) {
         Some(Slot::Waiting(job)) => Some(job),
@@ -470,16 +598,32 @@ fn waiting_job(slots: &[Slot], at: usize) -> Option<&Job>
     }
 }
 
+// Whether it is a regular file.
+fn is_file(kind: Kind) -> bool
+    ensures { IsTrue result ↔ (kind ≡ kinds.File) }
+{
+    matches!(kind, Kind::File)
+}
+
 // Whether a regular file has the name of the URL that waits in a slot.
-fn is_there<F: Folder>(ledger: &mut Ledger<F, WholeBody>, slots: &[Slot], at: usize) -> bool
+fn is_there<F: Folder, D: Delivery>(
+    ledger: &mut Ledger<F, WholeBody<D>>,
+    slots: &[Slot],
+    at: usize,
+) -> bool
     ensures found { result ≡ true → IsFoundAt slots.now at ledger.new }
+    ensures vain { result ≡ false → LooksInVain slots.now at ledger.old ledger.new }
     ensures entries { ledger.new.entries ≡ ledger.old.entries }
+    ensures out { ledger.new.out ≡ ledger.old.out }
     ensures run { IsLaterLedger ledger.old ledger.new }
 {
     // proof: what holds of a ledger
     ledger.know();
     match waiting_job(slots, at) {
-        Some(job) => matches!(ledger.look(&job.name), Ok(Kind::File)),
+        Some(job) => match ledger.look(&job.name) {
+            Ok(kind) => is_file(kind),
+            Err(_) => false,
+        },
         None => false,
     }
 }
@@ -492,15 +636,89 @@ fn skipped(alloc: Global, job: Job) -> Result<End, AllocError>
     Ok(End::skipped(job.url, file))
 }
 
-// Notes that the transfer of the URL in a slot is added under this ticket.
-fn set_added(slots: &mut Vec<Slot>, at: usize, ticket: Ticket)
-    requires there { IsSome (job_at slots.old.items at) }
-    ensures { IsAdded slots.old.items slots.new.items at ticket }
+// rule save-limit
+// Makes a part, and a delivery with it, of a body with that limit.
+fn open<F: Folder, D: Delivery>(
+    alloc: Global,
+    ledger: &mut Ledger<F, WholeBody<D>>,
+    most_bytes: Option<u64>,
+) -> Result<(Spool<F>, u64), Unsaved>
+    ensures spool { IfOk result (λ r. r.0
+        ≡ record { sink = empty_sink (part_of ledger.old.process r.1); left = []; failure = None; count = 0; most_bytes = most_bytes }) }
+    ensures out { IfOk result (λ r. ledger.new.out ≡ r.1 ∷ ledger.old.out) }
+    ensures none_out { OnErr result (ledger.new.out ≡ ledger.old.out) }
+    ensures none_left { IfErr result (λ u. u.left ≡ None) }
+    ensures cause { IfErr result (λ u. u.error ≢ errors.OutOfMemory → refusals ledger.old.steps < refusals ledger.new.steps) }
+    ensures since { refusals ledger.old.start ≤ refusals ledger.old.steps }
+    ensures calls { IfErr result (λ u. HasRefused ledger.new (told_refusals u.error u.part None)) }
+    ensures refused_by { IfErr result (λ u. IsRefusedBy ledger.old ledger.new u.error u.part None) }
+    ensures entries { ledger.new.entries ≡ ledger.old.entries }
+    ensures process { ledger.new.process ≡ ledger.old.process }
+    ensures run { IsLaterLedger ledger.old ledger.new }
+{
+    // proof: what holds of a ledger
+    ledger.know();
+    match ledger.make_part() {
+        Ok(made) => {
+            // proof: what holds of the part
+            made.know();
+            let number = made.number();
+            let sink = PartSink::new(alloc, made);
+            Ok((Outlet::new(alloc, sink, most_bytes), number))
+        }
+        Err(unsaved) => Err(unsaved),
+    }
+}
+
+// Whether no file could be opened for a part, since too many are open.
+fn is_file_limit(error: SaveError) -> bool
+    ensures { IsTrue result ↔ (error ≡ errors.Create folder.TooManyOpen) }
+{
+    matches!(error, SaveError::Create(FolderError::TooManyOpen))
+}
+
+// Removes the part of a delivery, where it is one of this number. The answer is whether it is.
+fn discard<F: Folder, D: Delivery>(
+    ledger: &mut Ledger<F, WholeBody<D>>,
+    spool: Spool<F>,
+    number: u64,
+) -> bool
+    requires out { Contains ledger.old.out number }
+    ensures out { result ≡ true → ledger.new.out ≡ without number ledger.old.out }
+    ensures left { (ledger.new.left ≡ ledger.old.left) ⊎ LeavesPart ledger.old ledger.new }
+    ensures entries { ledger.new.entries ≡ ledger.old.entries }
+    ensures run { IsLaterLedger ledger.old ledger.new }
+{
+    let (sink, left) = spool.into_parts();
+    drop(left);
+    let part = sink.into_part();
+    if !ledger.is_of(&part, number) {
+        return false;
+    }
+    let _left = ledger.discard(part);
+    true
+}
+
+// Notes the part of the URL that waits in a slot.
+fn set_open(slots: &mut Vec<Slot>, at: usize, number: u64)
+    requires waits { Waits slots.old.items at }
+    ensures { IsOpened slots.old.items slots.new.items at number }
 {
     let Some(job) = take_job(slots, at) else {
         unreachable!();
     };
-    slots[at] = Slot::Added(job, ticket);
+    slots[at] = Slot::Open(job, number);
+}
+
+// Notes that the transfer of the URL in a slot is added under this ticket.
+fn set_added(slots: &mut Vec<Slot>, at: usize, ticket: Ticket)
+    requires begun { HasOpen slots.old.items at }
+    ensures { IsAdded slots.old.items slots.new.items at ticket }
+{
+    let Some((job, number)) = take_open(slots, at) else {
+        unreachable!();
+    };
+    slots[at] = Slot::Added(job, ticket, number);
 }
 
 // Notes that the URL in a slot waits for a further try.
@@ -514,12 +732,12 @@ fn set_waiting(slots: &mut Vec<Slot>, at: usize)
     slots[at] = Slot::Waiting(again(job));
 }
 
-// Puts a URL that was in a slot back there, to wait for a further try.
-fn put_back(slots: &mut Vec<Slot>, at: usize, job: Job)
+// Puts a URL that was in a slot back there, to wait.
+fn put(slots: &mut Vec<Slot>, at: usize, job: Job)
     requires { at < length slots.old.items }
-    ensures { IsPutBack slots.old.items slots.new.items at job }
+    ensures { slots.new.items ≡ slice_set slots.old.items at (slot.Waiting job) }
 {
-    slots[at] = Slot::Waiting(again(job));
+    slots[at] = Slot::Waiting(job);
 }
 
 // Frees a slot. Its URL comes back.
@@ -533,9 +751,25 @@ fn take_job(slots: &mut Vec<Slot>, at: usize) -> Option<Job>
     mem::replace(&mut slots[at], Slot::Free).into_job()
 }
 
+// Frees a slot of a URL with a part. The URL comes back, with the number of its part.
+fn take_open(slots: &mut Vec<Slot>, at: usize) -> Option<(Job, u64)>
+    ensures out { IfSome result (λ taken. IsOut slots.old.items at taken.0 taken.1) }
+    ensures none { (job : OneJob) (number : ℕ) → result ≡ None → slice_get slots.old.items at ≡ Some (slot.Open job number) → ⊥ }
+    ensures none_added { (job : OneJob) (ticket : OneTicket) (number : ℕ) → result ≡ None → slice_get slots.old.items at ≡ Some (slot.Added job ticket number) → ⊥ }
+    ensures free { IsSome result → slots.new.items ≡ slice_set slots.old.items at slot.Free }
+{
+    if at >= slots.len() {
+        return None;
+    }
+    match mem::replace(&mut slots[at], Slot::Free) {
+        Slot::Open(job, number) | Slot::Added(job, _, number) => Some((job, number)),
+        _ => None,
+    }
+}
+
 // The URL before a further try.
 fn again(mut job: Job) -> Job
-    ensures { result ≡ record job { tries = next_try job.tries } }
+    ensures { result ≡ next_job job }
 {
     job.tries = job.tries.saturating_add(1);
     job

@@ -1,42 +1,39 @@
 //! What a URL ends with, once its transfer has ended.
-ghost use Rattle.std.specs.Prelude.{◌≡◌, ◌≢◌, ◌-◌, ◌^◌, ◌<◌, ◌≤◌, ◌∷◌, min, IfErr, IfOk, OnErr, OnOk, Some, length};
-ghost use Rattle.mx_types.specs.declared.code.Code.TheVariants as code;
-ghost use Rattle.mx_chain.specs.Outcomes.{hops_of};
-ghost use Rattle.std.specs.List.{AllByRecursion, Contains};
-ghost use Rattle.mx_folder.specs.Steps.{refusals, refused_calls};
+ghost use Rattle.std.specs.Prelude.{◌≡◌, ◌⊎◌, ◌∷◌, [], true, IfErr, IfOk, IfSome, IsSome, OnErr, OnOk, None};
+ghost use Rattle.std.specs.List.{Contains};
+ghost use Rattle.mx_folder.specs.declared.steps.FolderCall.TheVariants as calls;
+ghost use Rattle.mx_part_sink.specs.PartSinks.{part_with};
 ghost use Rattle.mx_save.specs.Ledgers.{IsFresh};
-ghost use Rattle.mx_save.specs.Words.{unsaved_text};
-ghost use Rattle.mx_save.specs.declared.error.SaveError.TheVariants as errors;
-ghost use Rattle.mx_save_rules.specs.Codes.{save_number};
-ghost use Rattle.mx_save_rules.specs.Decisions.{IsDecision};
-ghost use Rattle.mx_save_rules.specs.Ends.{done_end, failed_end};
+ghost use Rattle.mx_save.specs.Made.{without};
+ghost use Rattle.mx_save_end.specs.Bodies.{IsWholeBody};
+ghost use Rattle.mx_save_rules.specs.Rules.{is_retried};
 ghost use Rattle.mx_save_rules.specs.declared.decision.Decision.TheVariants as decision;
-ghost use Rattle.mx_save_book.specs.Bodies.{IsWholeBody};
-ghost use Rattle.mx_save_book.specs.Jobs.{Asks, GrowsFor, HandsBack, HoldsOf, IsLaterLedger, IsMadeOf, IsMadeWithWords, IsTransferred, IsTry, MayName, told_refusals};
-ghost use Rattle.mx_save_book.specs.Said.{folder_code, unsaved_code};
+ghost use Rattle.mx_save_book.specs.Jobs.{Asks, ComesBack, HandsBack, IsEnding, IsHeardOf, IsLaterLedger, IsNeeded, IsPartOf, IsTry, LeavesPart};
 ghost use Rattle.mx_save_book.specs.declared.finish.NotEnded.TheVariants as not_ended;
 
-use crate::asking::Asking;
-use crate::body::WholeBody;
-use crate::framing::framing_of;
 use crate::job::Job;
-use crate::words::failure_words;
 use mx_chain::Outcome;
-use mx_file_name::FileName;
-use mx_folder::{Folder, FolderError};
-use mx_get_text::last_method;
-use mx_save::{Ledger, SaveError, Unsaved};
-use mx_save_rules::{Decision, End, SaveCode, Transferred, verdict_of};
-use mx_types::Code;
+use mx_folder::{Folder, FolderError, PartFile};
+use mx_part_sink::PartSink;
+use mx_save::{Ledger, Made};
+use mx_save_asking::Asking;
+use mx_save_end::{
+    Heard, Spool, WholeBody, Written, failed_end, left_end, unsaved_end, written_of,
+};
+use mx_save_rules::{Decision, End, SaveCode};
+use mx_sink::{Delivery, Outlet};
 use std::alloc::{AllocError, Global};
+use std::snapshot::Snapshot;
 
 /// Why a URL whose transfer ended has no end.
 #[derive(Drop)]
 pub(crate) enum NotEnded {
-    /// Memory was refused.
+    /// Out of memory.
     OutOfMemory,
-    /// No file could be opened for its body, since too many are open, and it may be tried again.
-    Unopened(Job),
+    /// The part isn't the URL's, or hasn't all though no write of it was refused.
+    NoPart,
+    /// It is to be tried again.
+    Again(Job),
 }
 
 impl From<AllocError> for NotEnded {
@@ -47,226 +44,294 @@ impl From<AllocError> for NotEnded {
     }
 }
 
-// How many hops an outcome has, held at the greatest number of 32 bits.
-fn hops_of(outcome: &Outcome) -> u32
-    ensures { result ≡ min (length (hops_of outcome.now)) (2 ^ 32 - 1) }
-{
-    let hops = outcome.hops();
-    if hops > u32::MAX as usize {
-        return u32::MAX;
-    }
-    hops as u32
-}
-
-// What is reported of a transfer.
-fn transferred(outcome: &Outcome, tries: u32) -> Transferred
-    ensures { IsTransferred outcome.now tries result }
-{
-    Transferred {
-        status: outcome.status(),
-        length: outcome.body_len(),
-        framing: framing_of(last_method(outcome), outcome.wire()),
-        hops: hops_of(outcome),
-        tries,
-    }
-}
-
-// The code of a refusal of the folder.
-fn folder_code(error: FolderError) -> SaveCode
-    ensures code { result ≡ folder_code error }
-    ensures failed { save_number result ≢ 0 }
-{
-    match error {
-        FolderError::OutOfMemory => SaveCode::Transfer(Code::OutOfMemory),
-        _ => SaveCode::WriteError,
-    }
-}
-
-// The code of a body that wasn't saved.
-fn code_of(error: SaveError) -> SaveCode
-    ensures code { result ≡ unsaved_code error }
-    ensures failed { save_number result ≢ 0 }
-{
-    match error {
-        SaveError::Create(error)
-        | SaveError::Write(error)
-        | SaveError::Flush(error)
-        | SaveError::Place(error) => folder_code(error),
-        SaveError::OutOfMemory => SaveCode::Transfer(Code::OutOfMemory),
-    }
-}
-
-// rule file-no-part-left
-// The end of a URL whose body wasn't saved, which says why.
-fn unsaved_end(
+// rule save-bodies
+// Saves the body of a response that is whole, all of which was written to its part.
+fn save<F: Folder, D: Delivery>(
     alloc: Global,
-    url: Vec<u8>,
-    told: Transferred,
-    unsaved: &Unsaved,
-) -> Result<End, AllocError>
-    ensures { IfOk result (λ end. end ≡ failed_end url.items (unsaved_code unsaved.now.error) told
-        (Some (unsaved_text unsaved.now.error unsaved.now.part unsaved.now.left))) }
-{
-    let words = format!(in alloc; "{unsaved}")?;
-    Ok(End::failed(url, code_of(unsaved.error), told, Some(words)))
-}
-
-// Saves the body of an outcome whose response is whole.
-fn save_whole<F: Folder>(
-    ledger: &mut Ledger<F, WholeBody>,
-    name: &FileName,
-    outcome: Outcome,
-) -> Result<(), Unsaved>
-    requires fresh { IsFresh name.now ledger.old.entries }
-    requires code { outcome.code ≢ code.Ok → ⊥ }
-    ensures saved { OnOk result (ledger.new.entries ≡ (name.now, outcome) ∷ ledger.old.entries) }
-    ensures whole { IsWholeBody outcome }
+    asking: &Asking,
+    ledger: &mut Ledger<F, WholeBody<D>>,
+    job: Job,
+    heard: Heard<D>,
+    part: Made<F::Part>,
+) -> Result<End, NotEnded>
+    requires fresh { IsFresh job.name ledger.old.entries }
+    requires heard { IsHeardOf asking.now job heard }
+    requires save { heard.decision ≡ decision.Save }
+    requires part { IsPartOf ledger.old part }
+    requires whole { part.part ≡ part_with part.part.name heard.outcome.content None }
+    ensures ending { IfOk result (IsEnding asking.now job heard.outcome ledger.old ledger.new) }
     ensures kept { OnErr result (ledger.new.entries ≡ ledger.old.entries) }
-    ensures cause { IfErr result (λ u. u.error ≢ errors.OutOfMemory → refusals ledger.old.steps < refusals ledger.new.steps) }
-    ensures calls { IfErr result (λ u. AllByRecursion (Contains (refused_calls ledger.new.steps)) (told_refusals u.error u.part u.left)) }
-    ensures since { refusals ledger.old.start ≤ refusals ledger.old.steps }
+    ensures known { IfErr result (λ e. e ≡ not_ended.OutOfMemory) }
+    ensures out { ledger.new.out ≡ without part.number ledger.old.out }
     ensures run { IsLaterLedger ledger.old ledger.new }
 {
-    // proof: what holds of a ledger
+    // proof: what holds of a ledger, and of what is known of the transfer
     ledger.know();
-    let Ok(body) = WholeBody::of(outcome) else {
+    heard.know();
+    // proof: what holds of what is asked
+    let _asked = asking.method;
+    let Heard { told, body, .. } = heard;
+    let Some(body) = body else {
         unreachable!();
     };
     // proof: what holds of a whole body
     body.know();
-    let saved = ledger.save(name, &body);
-    drop(body);
-    saved
-}
-
-// Ends a URL whose body wasn't saved. Where no file could be opened for it and the URL may be tried again, that comes back.
-fn fail(
-    alloc: Global,
-    job: Job,
-    told: Transferred,
-    unsaved: Unsaved,
-    may_retry: bool,
-) -> Result<End, NotEnded>
-    ensures failed { IfOk result (λ end. end ≡ failed_end job.url.items (unsaved_code unsaved.error) told
-        (Some (unsaved_text unsaved.error unsaved.part unsaved.left))) }
-    ensures back { IfErr result (HandsBack job may_retry) }
-    ensures cause { IfErr result (λ e. e ≢ not_ended.OutOfMemory → unsaved.error ≢ errors.OutOfMemory) }
-{
-    if may_retry && unsaved.is_file_limit() {
-        return Err(NotEnded::Unopened(job));
-    }
-    Ok(unsaved_end(alloc, job.url, told, &unsaved)?)
-}
-
-// rule save-bodies
-// Saves the body of an outcome. Where no file could be opened for it and the URL may be tried again, that comes back.
-fn save<F: Folder>(
-    alloc: Global,
-    asking: &Asking,
-    ledger: &mut Ledger<F, WholeBody>,
-    job: Job,
-    outcome: Outcome,
-    may_retry: bool,
-) -> Result<End, NotEnded>
-    requires fresh { IsFresh job.name ledger.old.entries }
-    requires decided { IsDecision outcome.code outcome.last.request.method outcome.status asking.now.content_on_error decision.Save }
-    requires asked { Asks asking.now job.url.items outcome.request }
-    requires tries { IsTry asking.now job.tries }
-    ensures url { IfOk result (λ end. end.url ≡ job.url.items) }
-    ensures grows { IfOk result (λ end. GrowsFor job.name end.verdict ledger.old.entries ledger.new.entries) }
-    ensures kept { OnErr result (ledger.new.entries ≡ ledger.old.entries) }
-    ensures name { IfOk result (λ end. MayName job.name end.file) }
-    ensures holds { IfOk result (λ end. HoldsOf asking.now ledger.new end end.verdict) }
-    ensures back { IfErr result (HandsBack job may_retry) }
-    ensures refused { IfErr result (λ e. e ≢ not_ended.OutOfMemory → refusals ledger.old.steps < refusals ledger.new.steps) }
-    ensures run { IsLaterLedger ledger.old ledger.new }
-{
-    let told = transferred(&outcome, job.tries);
     let Ok(file) = String::from_str(alloc, job.name.as_str()) else {
-        drop(outcome);
-        drop(job);
+        let _left = ledger.discard(part);
         return Err(NotEnded::OutOfMemory);
     };
-    // proof: what holds of what is asked
-    let _asked = asking.method;
-    match save_whole(ledger, &job.name, outcome) {
+    match ledger.keep(&job.name, part, Snapshot::of(&body)) {
         Ok(()) => Ok(End::saved(job.url, file, told)),
         Err(unsaved) => {
             drop(file);
-            fail(alloc, job, told, unsaved, may_retry)
+            Ok(unsaved_end(alloc, job.url, told, &unsaved)?)
         }
     }
 }
 
-// The end of a URL whose response is whole, and has nothing to save.
-fn done(job: Job, outcome: Outcome) -> End
-    ensures { IsMadeOf outcome job.tries (done_end job.url.items) result }
+// Ends a URL whose part refused a write.
+fn give_up<F: Folder, D: Delivery>(
+    alloc: Global,
+    asking: &Asking,
+    ledger: &mut Ledger<F, WholeBody<D>>,
+    job: Job,
+    heard: Heard<D>,
+    part: Made<F::Part>,
+    error: FolderError,
+) -> Result<End, NotEnded>
+    requires heard { IsHeardOf asking.now job heard }
+    requires sound { heard.is_sound ≡ true }
+    requires needed { IsNeeded heard.decision }
+    requires part { IsPartOf ledger.old part }
+    requires refused { part.part.refused ≡ (calls.Append, error) ∷ [] }
+    ensures ending { IfOk result (IsEnding asking.now job heard.outcome ledger.old ledger.new) }
+    ensures kept { ledger.new.entries ≡ ledger.old.entries }
+    ensures known { IfErr result (λ e. e ≡ not_ended.OutOfMemory) }
+    ensures out { ledger.new.out ≡ without part.number ledger.old.out }
+    ensures run { IsLaterLedger ledger.old ledger.new }
 {
-    let told = transferred(&outcome, job.tries);
-    drop(outcome);
-    End::done(job.url, told)
+    // proof: what holds of a ledger, and of what is known of the transfer
+    ledger.know();
+    heard.know();
+    know_body(&heard);
+    // proof: what holds of what is asked
+    let _asked = asking.method;
+    let told = heard.told;
+    drop(heard);
+    let unsaved = ledger.give_up(part, error);
+    Ok(unsaved_end(alloc, job.url, told, &unsaved)?)
 }
 
-// rule save-failures
-// The end of a URL of which nothing is saved, with this code.
-fn failed(alloc: Global, job: Job, outcome: Outcome, code: SaveCode) -> Result<End, AllocError>
-    requires code { save_number code ≢ 0 }
-    ensures { IfOk result (IsMadeWithWords outcome job.tries (λ t text. failed_end job.url.items code t (Some text))) }
+// Ends a URL whose response is whole, and has nothing to save.
+fn done<F: Folder, D: Delivery>(
+    alloc: Global,
+    asking: &Asking,
+    ledger: &mut Ledger<F, WholeBody<D>>,
+    job: Job,
+    heard: Heard<D>,
+    part: Made<F::Part>,
+) -> Result<End, NotEnded>
+    requires heard { IsHeardOf asking.now job heard }
+    requires done { heard.decision ≡ decision.Done }
+    requires part { IsPartOf ledger.old part }
+    ensures ending { IfOk result (IsEnding asking.now job heard.outcome ledger.old ledger.new) }
+    ensures kept { ledger.new.entries ≡ ledger.old.entries }
+    ensures known { IfErr result (λ e. e ≡ not_ended.OutOfMemory) }
+    ensures out { ledger.new.out ≡ without part.number ledger.old.out }
+    ensures run { IsLaterLedger ledger.old ledger.new }
 {
-    let told = transferred(&outcome, job.tries);
-    match failure_words(alloc, &outcome) {
-        Ok(words) => {
-            drop(outcome);
-            Ok(End::failed(job.url, code, told, Some(words)))
-        }
-        Err(error) => {
-            drop(outcome);
-            Err(error)
-        }
+    // proof: what holds of a ledger, of the transfer, and of what is asked
+    ledger.know();
+    heard.know();
+    let _asked = asking.method;
+    let told = heard.told;
+    let report = heard.report;
+    drop(heard);
+    let discarded = ledger.discard(part);
+    match discarded.left {
+        None => Ok(End::done(job.url, told)),
+        Some(_) => Ok(left_end(alloc, job.url, told, report, &discarded)?),
     }
 }
 
-// What is done with what a transfer ended with.
-fn decide(asking: &Asking, outcome: &Outcome) -> Decision
-    ensures { IsDecision outcome.now.code outcome.now.last.request.method outcome.now.status asking.now.content_on_error result }
+// Ends a URL of which nothing is saved, with this code.
+fn fail<F: Folder, D: Delivery>(
+    alloc: Global,
+    asking: &Asking,
+    ledger: &mut Ledger<F, WholeBody<D>>,
+    job: Job,
+    heard: Heard<D>,
+    part: Made<F::Part>,
+    code: SaveCode,
+) -> Result<End, NotEnded>
+    requires heard { IsHeardOf asking.now job heard }
+    requires failed { heard.decision ≡ decision.Fail code }
+    requires part { IsPartOf ledger.old part }
+    ensures ending { IfOk result (IsEnding asking.now job heard.outcome ledger.old ledger.new) }
+    ensures kept { ledger.new.entries ≡ ledger.old.entries }
+    ensures known { IfErr result (λ e. e ≡ not_ended.OutOfMemory) }
+    ensures out { ledger.new.out ≡ without part.number ledger.old.out }
+    ensures run { IsLaterLedger ledger.old ledger.new }
 {
-    verdict_of(
-        outcome.code(),
-        last_method(outcome),
-        outcome.status(),
-        asking.content_on_error,
-    )
+    // proof: what holds of a ledger, of the transfer, and of what is asked
+    ledger.know();
+    heard.know();
+    let _asked = asking.method;
+    let told = heard.told;
+    let report = heard.report;
+    drop(heard);
+    let discarded = ledger.discard(part);
+    Ok(failed_end(alloc, job.url, code, told, report, &discarded)?)
 }
 
-// Ends a URL whose transfer ended so: its body is saved if it should be. Where no file could be opened for that and the URL may be tried
-// again, it comes back.
+// Removes the part of a URL that is to be tried again. Where it is left, the URL has ended.
+fn again<F: Folder, D: Delivery>(
+    alloc: Global,
+    asking: &Asking,
+    ledger: &mut Ledger<F, WholeBody<D>>,
+    job: Job,
+    heard: Heard<D>,
+    part: Made<F::Part>,
+) -> Result<End, NotEnded>
+    requires heard { IsHeardOf asking.now job heard }
+    requires part { IsPartOf ledger.old part }
+    requires retried { is_retried asking.now.method heard.outcome.code heard.outcome.status ≡ true }
+    ensures ending { IfOk result (IsEnding asking.now job heard.outcome ledger.old ledger.new) }
+    ensures kept { ledger.new.entries ≡ ledger.old.entries }
+    ensures left { OnOk result (LeavesPart ledger.old ledger.new) }
+    ensures came_back { IfErr result (ComesBack part.number ledger.old ledger.new) }
+    ensures back { IfErr result (HandsBack job true) }
+    ensures out { ledger.new.out ≡ without part.number ledger.old.out }
+    ensures run { IsLaterLedger ledger.old ledger.new }
+{
+    // proof: what holds of a ledger, of the transfer, and of what is asked
+    ledger.know();
+    heard.know();
+    let _asked = asking.method;
+    let told = heard.told;
+    let report = heard.report;
+    drop(heard);
+    let discarded = ledger.discard(part);
+    match discarded.left {
+        None => Err(NotEnded::Again(job)),
+        Some(_) => Ok(left_end(alloc, job.url, told, report, &discarded)?),
+    }
+}
+
+// What holds of the body of a whole response.
+fn know_body<D: Delivery>(heard: &Heard<D>)
+    ensures { IfSome heard.now.body IsWholeBody }
+{
+    if let Some(body) = &heard.body {
+        // proof: what holds of it
+        body.know();
+    }
+}
+
+// Whether a response needs its body: to be saved, or to tell why a write was refused. One of which nothing is to be saved ends as it would
+// without a body.
+fn needs_body(is_sound: bool, decision: Decision) -> bool
+    ensures { result ≡ true → IsNeeded decision }
+{
+    match decision {
+        Decision::Save => true,
+        Decision::Done | Decision::Fail(SaveCode::HttpReturnedError) => false,
+        Decision::Fail(_) => is_sound,
+    }
+}
+
+// The part of a transfer that has ended. Where its body isn't needed, what is gathered of it isn't written.
+fn part_of<P: PartFile>(outcome: Outcome<Outlet<PartSink<P>>>, is_needed: bool) -> Written<P>
+    ensures all { result.is_all ≡ true → P.value result.part ≡ part_with (P.value result.part).name outcome.content None }
+    ensures refused { IfSome result.refused (λ e. (P.value result.part).refused ≡ (calls.Append, e) ∷ []) }
+    ensures needed { IsSome result.refused → is_needed ≡ true }
+{
+    if is_needed {
+        return written_of(outcome);
+    }
+    let (outlet, rest) = outcome.into_delivery();
+    drop(rest);
+    let (sink, left) = outlet.into_parts();
+    drop(left);
+    Written {
+        part: sink.into_part(),
+        refused: None,
+        is_all: false,
+    }
+}
+
+// Ends a URL whose transfer ended so, by what is done with its response.
+fn settle<F: Folder, D: Delivery>(
+    alloc: Global,
+    asking: &Asking,
+    ledger: &mut Ledger<F, WholeBody<D>>,
+    job: Job,
+    heard: Heard<D>,
+    written: Written<Made<F::Part>>,
+) -> Result<End, NotEnded>
+    requires fresh { IsFresh job.name ledger.old.entries }
+    requires heard { IsHeardOf asking.now job heard }
+    requires part { IsPartOf ledger.old written.part }
+    requires all { written.is_all ≡ true → written.part.part ≡ part_with written.part.part.name heard.outcome.content None }
+    requires refused { IfSome written.refused (λ e. written.part.part.refused ≡ (calls.Append, e) ∷ []) }
+    requires needed { IsSome written.refused → IsNeeded heard.decision }
+    ensures ending { IfOk result (IsEnding asking.now job heard.outcome ledger.old ledger.new) }
+    ensures kept { OnErr result (ledger.new.entries ≡ ledger.old.entries) }
+    ensures known { IfErr result (λ e. (e ≡ not_ended.OutOfMemory) ⊎ (e ≡ not_ended.NoPart)) }
+    ensures out { ledger.new.out ≡ without written.part.number ledger.old.out }
+    ensures run { IsLaterLedger ledger.old ledger.new }
+{
+    let Written {
+        part,
+        refused,
+        is_all,
+    } = written;
+    match refused {
+        Some(error) if heard.is_sound => give_up(alloc, asking, ledger, job, heard, part, error),
+        _ => match heard.decision {
+            Decision::Save if is_all => save(alloc, asking, ledger, job, heard, part),
+            Decision::Save => {
+                let _left = ledger.discard(part);
+                Err(NotEnded::NoPart)
+            }
+            Decision::Done => done(alloc, asking, ledger, job, heard, part),
+            Decision::Fail(code) => fail(alloc, asking, ledger, job, heard, part, code),
+        },
+    }
+}
+
+/// Ends a URL whose transfer ended so: its body is saved if it should be, and else its part is removed. Where it may be tried again, that is
+/// done first, and it comes back, unless the part is left. The number is that of its part.
 pub(crate) fn finish<F: Folder>(
     alloc: Global,
     asking: &Asking,
-    ledger: &mut Ledger<F, WholeBody>,
+    ledger: &mut Ledger<F, WholeBody<Spool<F>>>,
     job: Job,
-    outcome: Outcome,
+    number: u64,
+    outcome: Outcome<Spool<F>>,
     may_retry: bool,
 ) -> Result<End, NotEnded>
     requires fresh { IsFresh job.name ledger.old.entries }
     requires asked { Asks asking.now job.url.items outcome.request }
     requires tries { IsTry asking.now job.tries }
-    ensures url { IfOk result (λ end. end.url ≡ job.url.items) }
-    ensures grows { IfOk result (λ end. GrowsFor job.name end.verdict ledger.old.entries ledger.new.entries) }
+    requires out { Contains ledger.old.out number }
+    requires retried { may_retry ≡ true → is_retried asking.now.method outcome.code outcome.status ≡ true }
+    ensures ending { IfOk result (IsEnding asking.now job outcome ledger.old ledger.new) }
     ensures kept { OnErr result (ledger.new.entries ≡ ledger.old.entries) }
-    ensures name { IfOk result (λ end. MayName job.name end.file) }
-    ensures holds { IfOk result (λ end. HoldsOf asking.now ledger.new end end.verdict) }
     ensures back { IfErr result (HandsBack job may_retry) }
-    ensures refused { IfErr result (λ e. e ≢ not_ended.OutOfMemory → refusals ledger.old.steps < refusals ledger.new.steps) }
-    ensures decided { IfErr result (λ e. e ≢ not_ended.OutOfMemory
-        → IsDecision outcome.code outcome.last.request.method outcome.status asking.now.content_on_error decision.Save) }
+    ensures left { OnOk result (may_retry ≡ true → LeavesPart ledger.old ledger.new) }
+    ensures out { OnOk result (ledger.new.out ≡ without number ledger.old.out) }
+    ensures came_back { IfErr result (ComesBack number ledger.old ledger.new) }
     ensures run { IsLaterLedger ledger.old ledger.new }
 {
-    // proof: what holds of an outcome
-    outcome.know();
-    match decide(asking, &outcome) {
-        Decision::Save => save(alloc, asking, ledger, job, outcome, may_retry),
-        Decision::Done => Ok(done(job, outcome)),
-        Decision::Fail(code) => Ok(failed(alloc, job, outcome, code)?),
+    let heard = Heard::of(asking.content_on_error, &outcome, job.tries);
+    let is_needed = !may_retry && needs_body(heard.is_sound, heard.decision);
+    let written = part_of(outcome, is_needed);
+    if !ledger.is_of(&written.part, number) {
+        return Err(NotEnded::NoPart);
     }
+    if may_retry {
+        return again(alloc, asking, ledger, job, heard, written.part);
+    }
+    settle(alloc, asking, ledger, job, heard, written)
 }

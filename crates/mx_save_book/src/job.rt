@@ -1,7 +1,7 @@
 //! The URLs that have no end yet.
 ghost use Rattle.std.specs.Prelude.{◌≡◌, option_copied};
-ghost use Rattle.mx_save_book.specs.Jobs.{job_of};
-ghost use Rattle.mx_save_book.specs.Books.{awaits};
+ghost use Rattle.mx_save_book.specs.Jobs.{is_taken, job_of};
+ghost use Rattle.mx_save_book.specs.Books.{awaits, is_unadded};
 
 use mx_file_name::FileName;
 use mx_types::Ticket;
@@ -15,7 +15,7 @@ pub struct Job {
     pub url: Vec<u8>,
     /// The name of its file.
     pub name: FileName,
-    /// How many tries were made.
+    /// Which try it is, from 1 on.
     pub tries: u32,
 }
 
@@ -26,8 +26,10 @@ pub enum Slot {
     Free,
     /// No transfer of it is added.
     Waiting(Job),
-    /// The transfer of this addition is.
-    Added(Job, Ticket),
+    /// The part of this number was made for its body, and no transfer of it is added yet.
+    Open(Job, u64),
+    /// The transfer of this addition is, which writes the part of this number.
+    Added(Job, Ticket, u64),
 }
 
 impl Slot {
@@ -37,8 +39,7 @@ impl Slot {
     {
         match self {
             Slot::Free => None,
-            Slot::Waiting(job) => Some(job),
-            Slot::Added(job, _) => Some(job),
+            Slot::Waiting(job) | Slot::Open(job, _) | Slot::Added(job, _, _) => Some(job),
         }
     }
 
@@ -47,10 +48,23 @@ impl Slot {
         ensures { result ≡ awaits ticket self.now }
     {
         match self {
-            Slot::Free => false,
-            Slot::Waiting(_) => false,
-            Slot::Added(_, own) => *own == ticket,
+            Slot::Added(_, own, _) => *own == ticket,
+            _ => false,
         }
+    }
+
+    /// Whether it has a URL.
+    pub(crate) fn is_taken(&self) -> bool
+        ensures { result ≡ is_taken self.now }
+    {
+        !matches!(self, Slot::Free)
+    }
+
+    /// Whether no transfer of its URL is added.
+    pub(crate) fn is_unadded(&self) -> bool
+        ensures { result ≡ is_unadded self.now }
+    {
+        !matches!(self, Slot::Added(_, _, _))
     }
 
     /// Its URL, by move.
@@ -59,8 +73,7 @@ impl Slot {
     {
         match self {
             Slot::Free => None,
-            Slot::Waiting(job) => Some(job),
-            Slot::Added(job, _) => Some(job),
+            Slot::Waiting(job) | Slot::Open(job, _) | Slot::Added(job, _, _) => Some(job),
         }
     }
 }

@@ -126,7 +126,7 @@ impl<W: Write> Lines<W> {
 
     /// Prints what the URL at that place ended with, and flushes.
     ///
-    /// An error says that memory for a text in JSON was refused, before anything was written, or that the output couldn't be written.
+    /// An error is `OutOfMemory`, for a text in JSON and before anything was written, or says that the output couldn't be written.
     pub fn tell(&mut self, place: u64, end: End) -> Result<(), Stop>
         ensures told { OnOk result (self.new.told ≡ self.old.told ++ record { place = place; end = end } ∷ []) }
         ensures is { OnOk result (IsEnd end) }

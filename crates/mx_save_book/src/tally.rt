@@ -40,7 +40,7 @@ impl Tally {
         Tally {
             ended: self.ended.saturating_add(1),
             failed: self.failed.saturating_add(failed),
-            bytes: self.bytes.saturating_add(u64::from(end.length())),
+            bytes: self.bytes.saturating_add(end.length()),
         }
     }
 }

@@ -1,42 +1,38 @@
-use Rattle.std.proofs.Common.{◌≡◌, ◌∙◌, ap, sym, subst, inl, inr}
-use Rattle.mx_save_rules.specs.declared.decision.Decision.TheVariants as decision
-use Rattle.mx_save_rules.specs.declared.code.SaveCode.TheVariants as code
-use Rattle.mx_save_book.specs.Jobs.{MayName, is_saved}
-use Rattle.mx_save_book.proofs.Holds.{if_err, if_ok, saved_holds, unsaved_holds}
+use Rattle.std.proofs.Common.{◌≡◌, ◌∙◌, ap, subst, sym, inl, refl, ◌∷◌}
+use Rattle.std.specs.Prelude.{Some, string_bytes}
+use Rattle.mx_save_end.specs.Bodies.{IsWholeBody}
+use Rattle.mx_save_rules.specs.Decisions.{IsDecision}
+use Rattle.mx_save.specs.Words.{unsaved_text}
+use Rattle.mx_save_rules.specs.Ends.{failed_end, saved_end}
+use Rattle.mx_save_end.specs.Heard.{HeardValue}
+use Rattle.mx_save_end.specs.Said.{unsaved_code}
+use Rattle.mx_save_book.proofs.Calls.{calls_refused}
+use Rattle.mx_save_book.proofs.Books.{refusals_later}
+use Rattle.mx_save_book.proofs.Holds.{body_is, saved, unsaved_by}
 use Rattle.mx_save_book.proofs.finish.save.Goals as goal
 
-pub save_whole-requires-clause-code : goal.save_whole-requires-clause-code
-save_whole-requires-clause-code g c = λ other. let bad : decision.Save ≡ decision.Fail (code.Transfer c.args.outcome.code) = c.requires.decided.failed other in cc
+pub returns-in-Ok-keep-clause-ending : goal.returns-in-Ok-keep-clause-ending
+returns-in-Ok-keep-clause-ending g c =
+    let h = c.know-2.ensures in
+    let o = c.args.heard.outcome in
+    let same = body_is c.args.heard.body c.in-Some.body o (ap (λ (x : HeardValue). x.body) (sym c.heard.view_is) ∙ c.in-Some.is) h.body in
+    saved c.args.asking.now c.args.job c.args.ledger.now c.keep.new.self o c.args.heard.told (string_bytes c.in-Ok.file) c.saved.result
+    (c.in-Ok-keep.ensures.saved ∙ ap (λ x. (c.args.job.name, x) ∷ c.args.ledger.now.entries) (c.of.ensures ∙ same)) (c.in-Ok.ensures.ok ∙ c.as_str.ensures)
+    (subst IsWholeBody same c.know-3.ensures) c.requires.heard.asked
+    (subst (IsDecision o.code o.last.request.method o.status c.args.asking.now.content_on_error) c.requires.save c.requires.heard.decided) h.told c.requires.heard.once c.in-Ok-keep.ensures.none_left
+    (subst (λ (x : HeardValue). c.saved.result ≡ saved_end c.args.job.url.items (string_bytes c.in-Ok.file) x.told) c.heard.view_is c.saved.ensures)
 
-pub returns-in-Ok-save_whole-clause-holds : goal.returns-in-Ok-save_whole-clause-holds
-returns-in-Ok-save_whole-clause-holds g c =
-    saved_holds c.args.asking.now c.save_whole.new.ledger c.args.ledger.now.entries c.args.job.url.items _ c.args.job.name c.args.job.tries c.transferred-told.result c.args.outcome c.saved.result
-    c.in-Ok-save_whole.ensures.saved (c.in-Ok.ensures.ok ∙ c.as_str.ensures) c.save_whole.ensures.whole c.requires.asked c.requires.decided c.transferred-told.ensures c.requires.tries c.saved.ensures
-
-pub returns-in-Ok-save_whole-clause-grows : goal.returns-in-Ok-save_whole-clause-grows
-returns-in-Ok-save_whole-clause-grows g c =
-    inr (ap (λ x. is_saved x.verdict) c.saved.ensures, c.args.outcome, c.save_whole.ensures.whole, c.in-Ok-save_whole.ensures.saved)
-
-pub returns-in-Ok-save_whole-clause-name : goal.returns-in-Ok-save_whole-clause-name
-returns-in-Ok-save_whole-clause-name g c = subst (λ x. MayName c.args.job.name x.file) (sym c.saved.ensures) (c.in-Ok.ensures.ok ∙ c.as_str.ensures)
-
-pub returns-in-Err-clause-holds : goal.returns-in-Err-clause-holds
-returns-in-Err-clause-holds g c =
+pub returns-clause-ending : goal.returns-clause-ending
+returns-clause-ending g c =
+    let h = c.know-2.ensures in
+    let o = c.args.heard.outcome in
+    let old = c.args.ledger.now in
     let u = c.in-Err.unsaved in
-    if_ok _ _ c.fail.result
-    (λ e same. unsaved_holds c.args.asking.now c.args.ledger.now c.save_whole.new.ledger c.args.job.url.items c.args.job.tries c.transferred-told.result c.args.outcome u.error u.part u.left e
-    c.save_whole.ensures.whole c.requires.asked c.requires.decided c.transferred-told.ensures c.requires.tries c.save_whole.ensures.since c.save_whole.ensures.run.start
-    c.in-Err.ensures.cause c.in-Err.ensures.calls same)
-    c.fail.ensures.failed
-
-pub returns-in-Err-clause-grows : goal.returns-in-Err-clause-grows
-returns-in-Err-clause-grows g c = if_ok _ _ c.fail.result (λ e same. inl (ap (λ x. is_saved x.verdict) same, c.in-Err.ensures.kept)) c.fail.ensures.failed
-
-pub returns-in-Err-clause-name : goal.returns-in-Err-clause-name
-returns-in-Err-clause-name g c = if_ok _ _ c.fail.result (λ e same. subst (λ x. MayName c.args.job.name x.file) (sym same) tt) c.fail.ensures.failed
-
-pub returns-in-Err-clause-url : goal.returns-in-Err-clause-url
-returns-in-Err-clause-url g c = if_ok _ _ c.fail.result (λ e same. ap (λ x. x.url) same) c.fail.ensures.failed
-
-pub returns-in-Err-clause-refused : goal.returns-in-Err-clause-refused
-returns-in-Err-clause-refused g c = if_err _ _ c.fail.result (λ e known other. c.in-Err.ensures.cause (known other)) c.fail.ensures.cause
+    let same = body_is c.args.heard.body c.in-Some.body o (ap (λ (x : HeardValue). x.body) (sym c.heard.view_is) ∙ c.in-Some.is) h.body in
+    let decided = subst (IsDecision o.code o.last.request.method o.status c.args.asking.now.content_on_error) c.requires.save c.requires.heard.decided in
+    unsaved_by c.args.asking.now c.args.job old c.keep.new.self o c.args.heard.told u.error u.part c.args.part.part.name u.left c.in_ok-unsaved_end-in-Err.field-0
+    h.end c.in-Err.ensures.known c.in-Err.ensures.part (inl (subst IsWholeBody same c.know-3.ensures, decided)) c.in-Err.ensures.kept c.requires.heard.asked h.told c.requires.heard.once
+    (refusals_later old.start old.steps c.know.ensures.since.later) c.keep.ensures.start (c.in-Err.ensures.cause refl)
+    (calls_refused old c.keep.new.self u.error c.args.part.part.name u.left c.know.ensures.since.later c.keep.ensures.start c.keep.ensures.later c.in-Err.ensures.refused) c.in-Err.ensures.left
+    (subst (λ (x : HeardValue). c.in_ok-unsaved_end-in-Err.field-0 ≡ failed_end c.args.job.url.items (unsaved_code u.error) x.told (Some (unsaved_text u.error u.part u.left))) c.heard.view_is
+    c.in_ok-unsaved_end-in-Err.ensures)

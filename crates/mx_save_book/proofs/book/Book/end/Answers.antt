@@ -1,4 +1,4 @@
-use Rattle.mx_save_book.proofs.Books.{ended_of, told_of, whole_of}
+use Rattle.mx_save_book.proofs.Books.{ended_of, none_out_of, told_of, whole_of}
 use Rattle.mx_save_book.proofs.book.Book.end.Goals as goal
 
 pub returns-clause-told : goal.returns-clause-told
@@ -9,3 +9,6 @@ returns-clause-whole g c = whole_of _ _ _ _ c.self.view_is c.self.invariant
 
 pub returns-clause-ended : goal.returns-clause-ended
 returns-clause-ended g c = ended_of _ _ _ _ c.self.view_is c.self.invariant
+
+pub returns-clause-none_out : goal.returns-clause-none_out
+returns-clause-none_out g c = none_out_of _ _ _ _ c.self.view_is c.self.invariant

@@ -1,5 +1,6 @@
-use Rattle.std.proofs.Common.{◌∙◌, ap, refl, false, sym, subst, map, [], ◌∷◌}
-use Rattle.mx_save_book.specs.Jobs.{Refuses}
+use Rattle.std.proofs.Common.{◌∙◌, ap, refl, false, sym, subst, map, [], ◌∷◌, ◌++◌}
+use Rattle.mx_save_book.specs.Books.{IsRefusedNow}
+use Rattle.mx_save_book.specs.Jobs.{BookValue, Refuses, refused_end}
 use Rattle.mx_save_book.proofs.Books.{account, refused_as, stopped_more, texts_push}
 use Rattle.mx_save_book.proofs.book.Book.refuse.Goals as goal
 
@@ -24,3 +25,23 @@ invariant_of-self-2 g c =
     (refused_as _ c.self.inside.read _ c.self.inside.names _ c.args.url.items c.args.why c.in_ok-end.end _ was c.in-Some.ensures.0
     (ap (map (λ u. u.items)) c.show.ensures ∙ texts_push (λ u. u.items) c.self.inside.urls c.args.url)
     c.in_ok-tell.ensures.told c.in_ok-tell.ensures.is c.in_ok-end.ensures refuses)
+    (c.self.invariant.out (ap (λ b. b.is_stopped) c.self.view_is ∙ c.requires.going))
+
+pub returns-clause-told : goal.returns-clause-told
+returns-clause-told g c =
+    let read = (c.self.invariant.going (ap (λ b. b.is_stopped) c.self.view_is ∙ c.requires.going)).read in
+    let now : BookValue g.row.W.Denot = record {
+      asking = c.self.inside.asking;
+      urls = map (λ u. u.items) c.show.new.self;
+      named = map (λ u. u.items) c.self.inside.named;
+      slots = c.self.inside.slots.items;
+      lines = c.tell.new.self;
+      ledger = c.self.inside.ledger;
+      is_stopped = false;
+    } in
+    subst (λ b. IsRefusedNow b now c.args.url.items) c.self.view_is (record {
+      why = c.args.why;
+      refuses = subst (λ b. Refuses b.asking c.args.url.items c.args.why) (sym c.self.view_is) c.requires.why;
+      told = c.in_ok-tell.ensures.told ∙ ap (λ e. c.self.inside.lines.told ++ record { place = c.self.inside.read; end = e } ∷ []) c.in_ok-end.ensures
+          ∙ ap (λ n. c.self.inside.lines.told ++ record { place = n; end = refused_end c.args.url.items c.args.why } ∷ []) read;
+    })

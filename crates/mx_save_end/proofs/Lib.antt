@@ -1,0 +1,3 @@
+mod Bodies
+mod Framings
+mod Spools
