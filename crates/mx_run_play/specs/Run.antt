@@ -88,7 +88,8 @@ WantsEvent p (line.Call c) = MakesEvent p c
 WantsEvent p line.Retire = ⊥
 WantsEvent p line.Bad = ⊥
 
--- rule program-out-of-memory: Out of memory is `FAULT 27`, in `play` after the replies to the lines before.
+-- rule program-out-of-memory: Out of memory is `FAULT 27`, in `play` after the replies to the lines before, in `get` after
+-- the ends of the first URLs.
 --
 -- Memory for the event of some line's call was refused: what is written is the run of the lines before it, none of which was bad, and then
 -- the fault, and the program ends with its number.

@@ -9,7 +9,7 @@ use Rattle.mx_command.specs.declared.save.BodySource.{BodySource}
 use Rattle.mx_command.specs.declared.save.BodySource.TheVariants.{Text, File}
 use Rattle.mx_command.specs.declared.save.Header.{Header}
 use Rattle.mx_command.specs.declared.save.Save.{Save}
-use Rattle.mx_save_book.specs.declared.asking.Asking.{Asking}
+use Rattle.mx_save_asking.specs.declared.asking.Asking.{Asking}
 
 -- a header field
 abbrev pub field_given : Header → Field
@@ -62,6 +62,7 @@ pub record IsOneTooMany (n : ℕ) : Type 0 where
   pub too_many : (bytes : List ℕ) → length bytes ≡ n → is_body_too_large (Some bytes) ≡ true
   pub fits : (bytes : List ℕ) → length bytes < n → is_body_too_large (Some bytes) ≡ false
 
+-- rule save-limit
 -- each request has what is asked for, and so has what is done with what comes of it; no request is refused for what it is to have
 pub record IsAskedBy (save : Save) (asking : Asking) : Type 0 where
   pub method : asking.method ≡ save.method
@@ -69,5 +70,6 @@ pub record IsAskedBy (save : Save) (asking : Asking) : Type 0 where
   pub settings : asking.settings ≡ settings_given save asking.settings.body
   pub allowed : refusal_of asking.settings ≡ None
   pub retries : asking.retries ≡ save.numbers.retries
+  pub most_bytes : asking.most_bytes ≡ save.numbers.most_bytes
   pub skip_existing : asking.skip_existing ≡ save.flags.skip_existing
   pub content_on_error : asking.content_on_error ≡ save.flags.content_on_error

@@ -1,14 +1,14 @@
 -- What a run of `save` leaves in its folder.
-use Rattle.std.specs.Prelude.{◌≡◌, ℕ, List, map, ◌++◌, Option, Some, option_map}
+use Rattle.std.specs.Prelude.{◌≡◌, ℕ, List, [], map, ◌++◌, Option, Some, option_map}
 use Rattle.mx_chain.specs.Outcomes.{OutcomeValue}
 use Rattle.mx_folder.specs.declared.steps.Step.{Step}
 use Rattle.mx_save.specs.Ledgers.{LedgerValue, IsLedger}
 use Rattle.mx_command.specs.declared.save.Save.{Save}
-use Rattle.mx_save_book.specs.Bodies.{parts_of}
+use Rattle.mx_save_end.specs.Bodies.{body_of}
 use Rattle.mx_save_book.specs.Books.{HaveEnded}
 use Rattle.mx_save_book.specs.Jobs.{AreWhole}
 use Rattle.mx_save_book.specs.Lines.{LinesValue, PrintedEndValue}
-use Rattle.mx_save_book.specs.declared.asking.Asking.{Asking}
+use Rattle.mx_save_asking.specs.declared.asking.Asking.{Asking}
 use Rattle.mx_save_urls.specs.Runs.{TellsTruly}
 
 -- the URLs of a run, where it is known what its list has: those of the command line, and then those of the list
@@ -17,14 +17,15 @@ urls_of save listed = option_map (λ more. map (λ u. u.now) save.urls.items ++ 
 
 -- The ledger of a run, over a folder that had one list of steps when the run began, and has another now. At each moment each name of a file held
 -- what it held before or a body that was saved under it, and each body that was saved is there now, flushed where that was asked for
--- (`IsLedger`). All that were saved are whole.
+-- (`IsLedger`). All that were saved are whole, and no part is out.
 pub record RunLedger (save : Save) (old new : List Step) : Type 0 where
   pub ledger : LedgerValue OutcomeValue
-  pub is : IsLedger parts_of ledger
+  pub is : IsLedger body_of ledger
   pub start : ledger.start ≡ old
   pub now : ledger.steps ≡ new
   pub flush : ledger.flush ≡ save.flags.fsync
   pub whole : AreWhole ledger.entries
+  pub none_out : ledger.out ≡ []
 
 -- rule save-each-once
 -- Each URL has ended, and was printed once: where it is known which URLs there were, these are the ones. What was saved is in the folder, by its

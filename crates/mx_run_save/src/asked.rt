@@ -175,6 +175,7 @@ pub fn asking_of<R: Files + AllocGlobal + Eprint>(rt: &R, save: &Save<'_>) -> Re
                 method: save.method,
                 settings,
                 retries: save.numbers.retries,
+                most_bytes: save.numbers.most_bytes,
                 skip_existing: save.flags.skip_existing,
                 content_on_error: save.flags.content_on_error,
             },

@@ -55,6 +55,8 @@ pub fn save_in<
     lines: Lines<W>,
     watch: V,
 ) -> Saved<F, W>
+where
+    F::Part: Send,
     requires numbers { AreSaveNumbers save.now.numbers }
     requires fresh { lines.told ≡ [] }
     ensures all { OnOk result.stopped (SavesIn save.now asking (urls_of save.now (list_left Rd.remaining list))
@@ -69,12 +71,13 @@ pub fn save_in<
         history: save.numbers.history,
     };
     let Ended {
-        ledger,
+        mut ledger,
         lines,
         mut watch,
         stopped,
     } = save_all(rt, asking, ledger, lines, feed, watch, plan);
     watch.end();
+    ledger.sweep();
     let (folder, flushed) = ledger.finish();
     Saved {
         folder,
@@ -115,6 +118,8 @@ fn save_aloud<
     folder: F,
     watch: V,
 ) -> u8
+where
+    F::Part: Send,
     requires numbers { AreSaveNumbers save.now.numbers }
     requires asked { IsAskedBy save.now asking }
     requires listed { is_some list ≡ is_some save.now.input }

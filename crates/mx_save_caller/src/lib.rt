@@ -37,6 +37,8 @@ pub fn save_and_know<
     lines: Lines<W>,
     watch: V,
 ) -> Saved<F, W>
+where
+    F::Part: Send,
     requires numbers { AreSaveNumbers save.now.numbers }
     requires fresh { lines.told ≡ [] }
     ensures left { LeavesTruly save.now asking (urls_of save.now (list_left Rd.remaining list)) (F.steps folder) (F.steps result.folder) result.lines.told }

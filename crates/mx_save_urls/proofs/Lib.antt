@@ -1,4 +1,5 @@
 pub mod Asked
+mod Begins
 mod Feeds
 mod Runs
 mod Waits

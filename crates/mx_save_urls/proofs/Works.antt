@@ -5,7 +5,7 @@ use Rattle.mx_request.specs.Request.{RequestValue}
 use Rattle.mx_fetch.proofs.Lists.{cases}
 use Rattle.mx_save_book.specs.Books.{IsJobFor, StandsAt, is_unadded}
 use Rattle.mx_save_book.specs.Jobs.{Asks, job_at, job_of}
-use Rattle.mx_save_book.specs.declared.asking.Asking.{Asking}
+use Rattle.mx_save_asking.specs.declared.asking.Asking.{Asking}
 use Rattle.mx_save_book.specs.declared.job.Slot.{Slot}
 use Rattle.mx_save_book.specs.declared.job.Slot.TheVariants as slot
 use Rattle.mx_save_urls.specs.Feeds.{Gives, IsFed, IsUsedUp, Keeps}
@@ -47,17 +47,17 @@ there (s ∷ ss) zero old v is = refl
 there (s ∷ ss) (suc i) old v is = there ss i old v is
 
 pub adds_none : (slots : List Slot) (i : ℕ) (v : Slot) → is_unadded v ≡ true → AddsNone slots (slice_set slots i v)
-adds_none slots i v unadded j job ticket is =
-    elim (cases slots i j v (slot.Added job ticket) is) [
+adds_none slots i v unadded j job ticket number is =
+    elim (cases slots i j v (slot.Added job ticket number) is) [
       | inl c ↦ let bad : false ≡ true = sym (ap is_unadded c.1) ∙ unadded in absurd (cc)
       | inr c ↦ c.1
     ]
 
 pub adds_same : (old new : List Slot) → new ≡ old → AddsNone old new
-adds_same old new same j job ticket is = ap (λ l. slice_get l j) (sym same) ∙ is
+adds_same old new same j job ticket number is = ap (λ l. slice_get l j) (sym same) ∙ is
 
 pub adds_then : (a b c : List Slot) → AddsNone a b → AddsNone b c → AddsNone a c
-adds_then a b c h k j job ticket is = h j job ticket (k j job ticket is)
+adds_then a b c h k j job ticket number is = h j job ticket number (k j job ticket number is)
 
 pub adds_standing : (old new : List Slot) (at : ℕ) (text : List ℕ) → StandsAt old new at text → AddsNone old new
 adds_standing old new at text s = subst (AddsNone old) (sym s.is) (adds_none old at (slot.Waiting s.job) refl)

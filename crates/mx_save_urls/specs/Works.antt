@@ -24,7 +24,8 @@ pub record IsSameWork {W : Type 0} (old new : WorkValue W) : Type 0 where
 
 -- no transfer was added
 abbrev pub AddsNone : List Slot → List Slot → Type 0
-AddsNone old new = (i : ℕ) (job : Job) (ticket : Ticket) → slice_get new i ≡ Some (slot.Added job ticket) → slice_get old i ≡ Some (slot.Added job ticket)
+AddsNone old new = (i : ℕ) (job : Job) (ticket : Ticket) (number : ℕ) → slice_get new i ≡ Some (slot.Added job ticket number)
+    → slice_get old i ≡ Some (slot.Added job ticket number)
 
 -- the URL in this slot is in the waiting list
 abbrev pub IsListed : List Wait → ℕ → Type 0

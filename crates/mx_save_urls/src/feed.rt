@@ -105,7 +105,7 @@ impl<'a, R: Read + Drop> Feed<'a, R> {
 
     /// Has the next URL at hand, where it can be had without waiting for the list: the same URLs are left.
     ///
-    /// An error is that the list couldn't be read, or that memory was refused.
+    /// An error is that the list couldn't be read, or `OutOfMemory`.
     pub fn look_ahead(&mut self) -> Result<Ahead, Stop>
         ensures kept { Keeps (left R.remaining self.old) (left R.remaining self.new) }
         ensures end { IfOk result (λ how. how ≡ ahead.End → IsUsedUp (left R.remaining self.old)) }
@@ -119,7 +119,7 @@ impl<'a, R: Read + Drop> Feed<'a, R> {
 
     /// The next URL, or None where none is at hand: after `look_ahead` has answered `Url` one is.
     ///
-    /// An error says that memory was refused: the same URLs are left.
+    /// An error is `OutOfMemory`: the same URLs are left.
     pub fn next(&mut self) -> Result<Option<Vec<u8>>, Stop>
         ensures next { IfOk result (λ said. Gives (left R.remaining self.old) said (λ v. v.items) (left R.remaining self.new)) }
         ensures some { HasUrl self.old → IfOk result IsSome }

@@ -4,6 +4,7 @@
 mod adding;
 mod feed;
 mod plan;
+mod requests;
 mod run;
 mod saving;
 mod timer;
@@ -13,7 +14,6 @@ mod work;
 
 pub use crate::feed::{Ahead, Feed};
 pub use crate::plan::{MOST_PENDING, Plan};
-pub use crate::run::Run;
 pub use crate::saving::{Ended, save_all};
 pub use crate::timer::Timer;
 pub use crate::watch::{Nobody, Standing, Watch};

@@ -11,7 +11,7 @@ ghost use Rattle.mx_save_urls.specs.Runs.{IsOneRun, SavesAll, TellsTruly};
 
 use crate::feed::Feed;
 use crate::plan::{MOST_PENDING, Plan};
-use crate::run::Run;
+use crate::run::{AtDesks, Run};
 use crate::timer::Timer;
 use crate::watch::Watch;
 use crate::work::Work;
@@ -20,8 +20,8 @@ use mx_fetch::{FetchEnd, fetch_over_sockets};
 use mx_folder::Folder;
 use mx_run_io::Stop;
 use mx_save::Ledger;
-use mx_save_book::{Asking, Book, Lines, Slot, WholeBody, free_slots};
-use mx_sink::Held;
+use mx_save_book::{Asking, Book, Lines, Slot, free_slots};
+use mx_save_end::{Spool, WholeBody};
 use std::alloc::{AllocFailed, AllocGlobal};
 use std::io::{Read, Write};
 use std::net::{Net, TcpListener, TcpStream};
@@ -50,6 +50,8 @@ fn run_boxed<
     plan: Plan,
     may_fill: bool,
 ) -> (Run<'a, F, W, Rd, V>, Result<(), Stop>)
+where
+    F::Part: Send,
     requires plan { IsPlan plan }
     requires going { run.work.book.is_stopped ≡ false }
     requires none { HasNoneAdded run.work.book.slots }
@@ -58,10 +60,10 @@ fn run_boxed<
     ensures going { OnOk result.1 (result.0.work.book.is_stopped ≡ false) }
     ensures run { IsSameWork run.entry.work result.0.work }
 {
-    match Box::new(rt.alloc(), run) {
+    let start = run.timer.start();
+    match Box::new(rt.alloc(), AtDesks { run }) {
         Ok(run) => {
-            let start = run.timer.start();
-            let end = fetch_over_sockets::<Held, R, Run<'a, F, W, Rd, V>>(
+            let end = fetch_over_sockets::<Spool<F>, R, AtDesks<Run<'a, F, W, Rd, V>>>(
                 rt,
                 run,
                 start,
@@ -73,11 +75,11 @@ fn run_boxed<
                 stopped,
                 met_file_limit,
             } = end;
-            let mut run = Box::into_inner(errand);
+            let AtDesks { mut run } = Box::into_inner(errand);
             report_file_limit(&mut run.watch, met_file_limit);
             (run, stopped)
         }
-        Err(AllocFailed { value: run }) => (run, Err(Stop::OutOfMemory)),
+        Err(AllocFailed { value }) => (value.run, Err(Stop::OutOfMemory)),
     }
 }
 
@@ -96,7 +98,7 @@ fn start_and_slots<R: AllocGlobal + Clock>(rt: &R) -> Result<(Instant, Vec<Slot>
 /// What a run left: what it saved, what it printed of its URLs, who watched it, and why it stopped before all had ended, if it did.
 #[derive(Drop)]
 pub struct Ended<F: Folder, W: Write, V> {
-    pub ledger: Ledger<F, WholeBody>,
+    pub ledger: Ledger<F, WholeBody<Spool<F>>>,
     pub lines: Lines<W>,
     pub watch: V,
     pub stopped: Result<(), Stop>,
@@ -110,9 +112,10 @@ pub struct Ended<F: Folder, W: Write, V> {
 /// added there. Who watches gets each end, the run's standing, and a report where a connection couldn't be begun since too many files were
 /// open. It may wait.
 ///
-/// It stops before all URLs have ended where memory is refused, where the output can't be written, where the list of URLs can't be read, or
-/// where the system has no clock, no poll or no thread for it. What it has reported by then holds all the same. No clause says that the cause it names is the right one, or which URLs were
-/// read of a list whose bytes std doesn't know.
+/// It stops before all URLs have ended where it is out of memory, where the output can't be written, where the list of URLs can't be read, or
+/// where the system has no clock, no poll or no thread for it. What it has reported by then holds all the same, and parts may be out:
+/// `Ledger::sweep` removes them. No clause says that the cause it names is the right one, or which URLs were read of a list whose bytes std
+/// doesn't know.
 pub fn save_all<
     'a,
     R: Runtime + Net<Listener = TcpListener, Stream = TcpStream>,
@@ -123,14 +126,17 @@ pub fn save_all<
 >(
     rt: &R,
     asking: Asking,
-    ledger: Ledger<F, WholeBody>,
+    ledger: Ledger<F, WholeBody<Spool<F>>>,
     lines: Lines<W>,
     feed: Feed<'a, Rd>,
     watch: V,
     plan: Plan,
 ) -> Ended<F, W, V>
+where
+    F::Part: Send,
     requires plan { IsPlan plan }
     requires fresh { (ledger.entries ≡ []) × (lines.told ≡ []) }
+    requires none_out { ledger.out ≡ [] }
     ensures all { OnOk result.stopped (SavesAll asking (left Rd.remaining feed.entry) result.ledger result.lines) }
     ensures told { TellsTruly asking (left Rd.remaining feed.entry) result.ledger result.lines }
     ensures run { IsOneRun ledger lines result.ledger result.lines }

@@ -1,20 +1,20 @@
 //! The turns of a run.
 ghost use Rattle.std.specs.Prelude.{◌≡◌, false, true, IfOk, IfSome, OnOk};
-ghost use Rattle.mx_save_book.specs.Books.{IsClosed, IsJobFor, awaits_at};
+ghost use Rattle.mx_save_book.specs.Books.{IsAwaited, IsClosed, IsJobFor, awaits_at};
 ghost use Rattle.mx_save_urls.specs.Works.{AreBroughtOn, IsSameWork};
-ghost use Rattle.mx_desk.specs.Desks.{Stays};
 ghost use Rattle.mx_save_urls.specs.Asked.{AreAsked, HasTurned};
 
-use crate::adding::{Begun, begin};
+use crate::adding::{Attempt, begin};
+use crate::requests::Requests;
 use crate::timer::Timer;
 use crate::watch::{Standing, Watch};
 use crate::work::Work;
 use mx_crew::Crew;
-use mx_desk::{Desk, Ended};
+use mx_desk::Ended;
 use mx_fetch::Turned;
 use mx_folder::Folder;
-use mx_link::Link;
 use mx_run_io::Stop;
+use mx_save_end::Spool;
 use std::alloc::AllocGlobal;
 use std::io::{Read, Write};
 use std::rt::Clock;
@@ -50,14 +50,14 @@ fn report<'a, F: Folder, W: Write, Rd: Read + Drop, V: Watch>(
 }
 
 // Reports the end of a URL that has ended since, and shows the run's standing, where it is time.
-fn look<'a, L: Link, F: Folder, W: Write, Rd: Read + Drop, V: Watch>(
-    desk: &mut Desk<'_, '_, L>,
+fn look<'a, F: Folder, K: Requests<Spool<F>>, W: Write, Rd: Read + Drop, V: Watch>(
+    desk: &mut K,
     work: &Work<'a, F, W, Rd>,
     watch: &mut V,
     seen: Seen,
     now: u64,
 ) -> Seen
-    ensures { Stays desk.old desk.new }
+    ensures { K.asked desk.new ≡ K.asked desk.old }
 {
     let ended = report(work, watch, seen.ended);
     let mut next = seen.next;
@@ -68,13 +68,13 @@ fn look<'a, L: Link, F: Folder, W: Write, Rd: Read + Drop, V: Watch>(
                 moment: now,
                 tally: work.tally(),
                 known: work.known(),
-                running: desk.len(),
+                running: desk.standing().len,
                 arrived: desk.arrived(),
             });
         }
         _ => watch.show_again(),
     }
-    let full = if desk.is_full() {
+    let full = if desk.standing().is_full {
         Some(seen.full.unwrap_or(now))
     } else {
         None
@@ -95,11 +95,17 @@ fn left_ms(patience: Option<u32>, is_full: bool, since: Option<u64>, now: u64) -
 
 // How long a message may be waited for, where a transfer was begun or not: not at all where the next one may be begun now; and else until the
 // run or its list is looked at, and until the next URL may be tried again, if one could be added then.
-fn wait_ms(begun: Begun, period: Option<u32>, may_add: bool, next: Option<u64>, now: u64) -> u32 {
-    let longest = match begun {
-        Begun::Added | Begun::Read => return 0,
-        Begun::NotYet => LIST_WAIT_MS,
-        Begun::Nothing => period.unwrap_or(LONGEST_WAIT_MS),
+fn wait_ms(
+    attempt: Attempt,
+    period: Option<u32>,
+    may_add: bool,
+    next: Option<u64>,
+    now: u64,
+) -> u32 {
+    let longest = match attempt {
+        Attempt::Added | Attempt::Read => return 0,
+        Attempt::NotYet => LIST_WAIT_MS,
+        Attempt::Nothing => period.unwrap_or(LONGEST_WAIT_MS),
     };
     match next {
         Some(moment) if may_add => {
@@ -115,10 +121,11 @@ fn wait_ms(begun: Begun, period: Option<u32>, may_add: bool, next: Option<u64>, 
 fn close<'a, F: Folder, W: Write, Rd: Read + Drop, R: Clock>(
     rt: &R,
     work: &mut Work<'a, F, W, Rd>,
-    ended: Ended,
+    ended: Ended<Spool<F>>,
     timer: Timer,
 ) -> Result<(), Stop>
     requires going { work.old.book.is_stopped ≡ false }
+    requires added { IsAwaited work.old.book.slots ended.at }
     requires asked { IsJobFor work.old.book.asking work.old.book.slots ended.at ended.outcome.request }
     requires waits { AreBroughtOn work.old.book.slots work.old.waiting }
     ensures waits { OnOk result (AreBroughtOn work.new.book.slots work.new.waiting) }
@@ -139,7 +146,7 @@ fn end_one<'a, F: Folder, W: Write, Rd: Read + Drop, R: Clock, V: Watch>(
     rt: &R,
     work: &mut Work<'a, F, W, Rd>,
     watch: &mut V,
-    ended: Ended,
+    ended: Ended<Spool<F>>,
     timer: Timer,
 ) -> Result<(), Stop>
     requires going { work.old.book.is_stopped ≡ false }
@@ -161,25 +168,25 @@ fn end_one<'a, F: Folder, W: Write, Rd: Read + Drop, R: Clock, V: Watch>(
 // Waits for the next message for so many milliseconds at most, and ends its URL.
 fn await_one<
     'a,
-    L: Link,
     F: Folder,
+    K: Requests<Spool<F>>,
     W: Write,
     Rd: Read + Drop,
     R: Wait + AllocGlobal + Clock,
     V: Watch,
 >(
     rt: &R,
-    desk: &mut Desk<'_, '_, L>,
+    desk: &mut K,
     work: &mut Work<'a, F, W, Rd>,
     watch: &mut V,
     timer: Timer,
     milliseconds: u32,
 ) -> Result<(), Stop>
     requires going { work.old.book.is_stopped ≡ false }
-    requires all { AreAsked work.old.book.asking work.old.book.slots desk.old.asked }
+    requires all { AreAsked work.old.book.asking work.old.book.slots (K.asked desk.old) }
     requires waits { AreBroughtOn work.old.book.slots work.old.waiting }
     ensures waits { OnOk result (AreBroughtOn work.new.book.slots work.new.waiting) }
-    ensures all { OnOk result (AreAsked work.new.book.asking work.new.book.slots desk.new.asked) }
+    ensures all { OnOk result (AreAsked work.new.book.asking work.new.book.slots (K.asked desk.new)) }
     ensures going { OnOk result (work.new.book.is_stopped ≡ false) }
     ensures run { IsSameWork work.old work.new }
 {
@@ -191,24 +198,25 @@ fn await_one<
 }
 
 // Why the run leaves its desk, if it does, where so many milliseconds are left until it leaves one that takes no more.
-fn how_turned<'a, L: Link, F: Folder, W: Write, Rd: Read + Drop>(
-    desk: &Desk<'_, '_, L>,
+fn how_turned<'a, F: Folder, K: Requests<Spool<F>>, W: Write, Rd: Read + Drop>(
+    desk: &K,
     work: &Work<'a, F, W, Rd>,
     left: u32,
 ) -> Option<Turned>
-    requires all { AreAsked work.now.book.asking work.now.book.slots desk.now.asked }
+    requires all { AreAsked work.now.book.asking work.now.book.slots (K.asked desk.now) }
     ensures { IfSome result (HasTurned work.now) }
 {
-    if desk.is_empty() {
+    let standing = desk.standing();
+    if standing.is_empty {
         if work.is_done() {
             return Some(Turned::AllEnded);
         }
-        if desk.is_full() {
+        if standing.is_full {
             return Some(Turned::HistoryFull);
         }
         return None;
     }
-    if desk.is_full() && (left == 0 || desk.is_idle()) {
+    if standing.is_full && (left == 0 || standing.is_idle) {
         return Some(Turned::Held);
     }
     None
@@ -220,8 +228,8 @@ fn how_turned<'a, L: Link, F: Folder, W: Write, Rd: Read + Drop>(
 // can be added at once.
 pub(crate) fn take_turns<
     'a,
-    L: Link,
     F: Folder,
+    K: Requests<Spool<F>>,
     W: Write,
     Rd: Read + Drop,
     R: Wait + AllocGlobal + Clock,
@@ -229,18 +237,18 @@ pub(crate) fn take_turns<
 >(
     rt: &R,
     crew: &Crew,
-    desk: &mut Desk<'_, '_, L>,
+    desk: &mut K,
     work: &mut Work<'a, F, W, Rd>,
     watch: &mut V,
     timer: Timer,
     patience: Option<u32>,
 ) -> Result<Turned, Stop>
     requires going { work.old.book.is_stopped ≡ false }
-    requires all { AreAsked work.old.book.asking work.old.book.slots desk.old.asked }
+    requires all { AreAsked work.old.book.asking work.old.book.slots (K.asked desk.old) }
     requires waits { AreBroughtOn work.old.book.slots work.old.waiting }
     ensures waits { OnOk result (AreBroughtOn work.new.book.slots work.new.waiting) }
     ensures turned { IfOk result (HasTurned work.new) }
-    ensures all { OnOk result (AreAsked work.new.book.asking work.new.book.slots desk.new.asked) }
+    ensures all { OnOk result (AreAsked work.new.book.asking work.new.book.slots (K.asked desk.new)) }
     ensures going { OnOk result (work.new.book.is_stopped ≡ false) }
     ensures run { IsSameWork work.old work.new }
 {
@@ -253,10 +261,10 @@ pub(crate) fn take_turns<
     for _ in rt.forever() {
         let now = timer.now(rt)?;
         seen = look(desk, work, watch, seen, now);
-        let begun = begin(rt, desk, work, watch, now)?;
+        let attempt = begin(rt, desk, work, watch, now)?;
         // another may end while a message is awaited
         seen.ended = report(work, watch, seen.ended);
-        if matches!(begun, Begun::Added) {
+        if matches!(attempt, Attempt::Added) {
             added = added.saturating_add(1);
             continue;
         }
@@ -264,12 +272,13 @@ pub(crate) fn take_turns<
             crew.wake(added);
             added = 0;
         }
-        let left = left_ms(patience, desk.is_full(), seen.full, now);
+        let standing = desk.standing();
+        let left = left_ms(patience, standing.is_full, seen.full, now);
         if let Some(turned) = how_turned(desk, work, left) {
             return Ok(turned);
         }
-        let may_add = desk.has_room() && !desk.is_full();
-        let milliseconds = wait_ms(begun, watch.period(), may_add, work.next_moment(), now);
+        let may_add = standing.has_room && !standing.is_full;
+        let milliseconds = wait_ms(attempt, watch.period(), may_add, work.next_moment(), now);
         await_one(rt, desk, work, watch, timer, milliseconds.min(left))?;
     }
     unreachable!()

@@ -1,7 +1,7 @@
 //! The work of a run: its URLs, from their reading to their ends.
-ghost use Rattle.std.specs.Prelude.{◌≡◌, ◌++◌, ◌∷◌, [], true, false, count_by, List, IfErr, IfNone, IfOk, IfSome, IsSome, OnErr, OnOk, Some, option_map, slice_get};
+ghost use Rattle.std.specs.Prelude.{◌≡◌, ◌++◌, ◌∷◌, [], true, false, count_by, List, IfErr, IfNone, IfOk, IfSome, IsSome, IsTrue, ◌↔◌, OnErr, OnOk, Some, option_map, slice_get};
 ghost use Rattle.mx_request.specs.Request.{IsRequest};
-ghost use Rattle.mx_save_book.specs.Books.{HasNoneAdded, IsAdded, IsClosed, IsJobFor, IsSameRun, awaits_at};
+ghost use Rattle.mx_save_book.specs.Books.{Begins, HasNoneAdded, HasOpen, IsAdded, IsAwaited, IsClosed, IsJobFor, IsSameRun, Waits, WaitsOn, awaits_at};
 ghost use Rattle.mx_save_book.specs.Jobs.{is_taken, job_at};
 ghost use Rattle.mx_save_book.specs.declared.job.Slot.TheVariants as slot;
 ghost use Rattle.mx_run_io.specs.declared.stop.Stop.TheVariants as stop;
@@ -15,7 +15,8 @@ use mx_chain::Outcome;
 use mx_folder::Folder;
 use mx_request::Request;
 use mx_run_io::Stop;
-use mx_save_book::{Book, Tally};
+use mx_save_book::{Begun, Book, Tally};
+use mx_save_end::Spool;
 use mx_save_rules::{End, Wait, Waiting};
 use mx_types::Ticket;
 use std::alloc::Global;
@@ -58,6 +59,7 @@ fn take_in<F: Folder, W: Write>(
     ensures none { (waiting : List Wait) → AreBroughtOn book.old.slots waiting → IfOk result (λ asked. IfNone asked (AreBroughtOn book.new.slots waiting)) }
     ensures urls { book.new.urls ≡ book.old.urls ++ url.items ∷ [] }
     ensures asked { IfOk result (λ asked. IfSome asked (λ r. IsJobFor book.new.asking book.new.slots at r × IsRequest r)) }
+    ensures stands { IfOk result (λ asked. IfSome asked (λ _. Waits book.new.slots at)) }
     ensures added { OnOk result (AddsNone book.old.slots book.new.slots) }
     ensures going { OnOk result (book.new.is_stopped ≡ false) }
     ensures stopped { OnErr result (book.new.is_stopped ≡ true) }
@@ -113,6 +115,7 @@ impl<'a, F: Folder, W: Write, R: Read + Drop> Work<'a, F, W, R> {
         ensures others { OnOk result (OthersAreBroughtOn at self.new.book.slots self.new.waiting) }
         ensures none { IfOk result (λ asked. IfNone asked (AreBroughtOn self.new.book.slots self.new.waiting)) }
         ensures asked { IfOk result (λ asked. IfSome asked (λ r. IsJobFor self.new.book.asking self.new.book.slots at r × IsRequest r)) }
+        ensures stands { IfOk result (λ asked. IfSome asked (λ _. Waits self.new.book.slots at)) }
         ensures added { OnOk result (AddsNone self.old.book.slots self.new.book.slots) }
         ensures going { OnOk result (self.new.book.is_stopped ≡ false) }
         ensures run { IsSameWork self.old self.new }
@@ -130,9 +133,33 @@ impl<'a, F: Folder, W: Write, R: Read + Drop> Work<'a, F, W, R> {
         self.book.free_slot()
     }
 
+    /// Makes a part for the body of the URL in that slot, which waits, as `Book::begin` does.
+    pub fn open(&mut self, at: usize) -> Result<Begun<Spool<F>>, Stop>
+        requires going { self.old.book.is_stopped ≡ false }
+        requires stands { Waits self.old.book.slots at }
+        ensures begun { IfOk result (Begins self.old.book self.new.book at) }
+        ensures waiting { self.new.waiting ≡ self.old.waiting }
+        ensures going { OnOk result (self.new.book.is_stopped ≡ false) }
+        ensures run { IsSameWork self.old self.new }
+    {
+        self.book.begin(at)
+    }
+
+    /// Takes back a delivery to which no transfer was added, as `Book::put_away` does.
+    pub fn put_away(&mut self, at: usize, spool: Spool<F>) -> Result<(), Stop>
+        requires going { self.old.book.is_stopped ≡ false }
+        requires open { HasOpen self.old.book.slots at }
+        ensures waits { OnOk result (WaitsOn self.old.book.slots self.new.book.slots at) }
+        ensures waiting { self.new.waiting ≡ self.old.waiting }
+        ensures going { OnOk result (self.new.book.is_stopped ≡ false) }
+        ensures run { IsSameWork self.old self.new }
+    {
+        self.book.put_away(at, spool)
+    }
+
     /// Notes that the transfer of the URL in that slot is added under this ticket.
     pub fn add(&mut self, at: usize, ticket: Ticket)
-        requires there { IsSome (job_at self.old.book.slots at) }
+        requires open { HasOpen self.old.book.slots at }
         requires waits { OthersAreBroughtOn at self.old.book.slots self.old.waiting }
         ensures waits { AreBroughtOn self.new.book.slots self.new.waiting }
         ensures added { IsAdded self.old.book.slots self.new.book.slots at ticket }
@@ -151,14 +178,15 @@ impl<'a, F: Folder, W: Write, R: Read + Drop> Work<'a, F, W, R> {
 
     /// Whether no transfer is added.
     pub fn has_none_added(&self) -> bool
-        ensures { result ≡ true → HasNoneAdded self.now.book.slots }
+        ensures { IsTrue result ↔ HasNoneAdded self.now.book.slots }
     {
         self.book.has_none_added()
     }
 
     /// Ends the URL in that slot, whose transfer ended so. Where it is to be tried again, the milliseconds until then come back.
-    pub fn close(&mut self, at: usize, outcome: Outcome) -> Result<Option<u64>, Stop>
+    pub fn close(&mut self, at: usize, outcome: Outcome<Spool<F>>) -> Result<Option<u64>, Stop>
         requires going { self.old.book.is_stopped ≡ false }
+        requires added { IsAwaited self.old.book.slots at }
         requires asked { IsJobFor self.old.book.asking self.old.book.slots at outcome.request }
         requires waits { AreBroughtOn self.old.book.slots self.old.waiting }
         ensures others { OnOk result (OthersAreBroughtOn at self.new.book.slots self.new.waiting) }
@@ -177,6 +205,7 @@ impl<'a, F: Folder, W: Write, R: Read + Drop> Work<'a, F, W, R> {
         ensures others { IfOk result (λ due. IfSome due (λ d. OthersAreBroughtOn d.0 self.new.book.slots self.new.waiting)) }
         ensures none { IfOk result (λ due. IfNone due (AreBroughtOn self.new.book.slots self.new.waiting)) }
         ensures asked { IfOk result (λ due. IfSome due (λ d. IsJobFor self.new.book.asking self.new.book.slots d.0 d.1 × IsRequest d.1)) }
+        ensures stands { IfOk result (λ due. IfSome due (λ d. Waits self.new.book.slots d.0)) }
         ensures why { IfErr result (λ e. e ≡ stop.OutOfMemory) }
         ensures book { self.new.book ≡ self.old.book }
         ensures run { IsSameWork self.old self.new }

@@ -156,19 +156,17 @@ fn fetch<
         return REFUSED;
     }
     match BufWriter::with_capacity(rt.alloc(), 65_536, io::writer(rt)) {
-        Ok(writer) if get.explain => run_get_explained(
-            rt,
-            get.urls.as_slice(),
-            get.options,
-            &mut Output::new(writer),
-            &mut Output::new(stderr),
-        ),
-        Ok(writer) => run_get(
-            rt,
-            get.urls.as_slice(),
-            get.options,
-            &mut Output::new(writer),
-        ),
+        Ok(writer) if get.explain => {
+            run_get_explained(
+                rt,
+                get.urls.as_slice(),
+                get.options,
+                Output::new(writer),
+                &mut Output::new(stderr),
+            )
+            .status
+        }
+        Ok(writer) => { run_get(rt, get.urls.as_slice(), get.options, Output::new(writer)).status }
         Err(_) => out_of_memory(rt),
     }
 }

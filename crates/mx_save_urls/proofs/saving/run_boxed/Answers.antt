@@ -9,16 +9,16 @@ use Rattle.mx_save_urls.proofs.saving.run_boxed.Goals as goal
 
 pub fetch_over_sockets-end-requires-clause-asked : goal.fetch_over_sockets-end-requires-clause-asked
 fetch_over_sockets-end-requires-clause-asked g c κs within = λ asked.
-    subst (λ r. (r.work.book.is_stopped ≡ false) × AreAsked r.work.book.asking r.work.book.slots asked × AreBroughtOn r.work.book.slots r.work.waiting)
+    subst (λ r. (r.run.work.book.is_stopped ≡ false) × AreAsked r.run.work.book.asking r.run.work.book.slots asked × AreBroughtOn r.run.work.book.slots r.run.work.waiting)
     (sym c.in-Ok.ensures.ok)
     (c.requires.going, asked_none c.args.run.work.book.asking c.args.run.work.book.slots asked c.requires.none, c.requires.waits)
 
 pub returns-in-Ok-clause-ended : goal.returns-in-Ok-clause-ended
 returns-in-Ok-clause-ended g c =
-    subst (λ r. OnOk c.fetch_over_sockets-end.result.stopped (HasTurned r.work how.AllEnded)) (sym c.into_inner-run.ensures)
+    subst (λ r. OnOk c.fetch_over_sockets-end.result.stopped (HasTurned r.run.work how.AllEnded)) (sym c.into_inner-run.ensures)
     (on_ok c.fetch_over_sockets-end.result.stopped (λ h. h.1) c.fetch_over_sockets-end.ensures.ended)
 
 pub returns-in-Ok-clause-going : goal.returns-in-Ok-clause-going
 returns-in-Ok-clause-going g c =
-    subst (λ r. OnOk c.fetch_over_sockets-end.result.stopped (r.work.book.is_stopped ≡ false)) (sym c.into_inner-run.ensures)
+    subst (λ r. OnOk c.fetch_over_sockets-end.result.stopped (r.run.work.book.is_stopped ≡ false)) (sym c.into_inner-run.ensures)
     (on_ok c.fetch_over_sockets-end.result.stopped (λ h. h.0) c.fetch_over_sockets-end.ensures.ended)

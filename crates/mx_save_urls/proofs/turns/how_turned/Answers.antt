@@ -5,9 +5,9 @@ pub returns-then-is_done : goal.returns-then-is_done
 returns-then-is_done g c =
     let book = c.args.work.now.book in
     let done = c.is_done.ensures c.if-is_done.true in
-    (none_asked book.asking book.slots c.args.desk.now.asked (c.is_empty.ensures.0 c.if-is_empty.true) c.requires.all, done.0, done.1)
+    (none_asked book.asking book.slots (g.K.Requests.asked c.args.desk.now) (c.standing-standing.ensures.empty c.if-standing.true) c.requires.all, done.0, done.1)
 
-pub returns-then-is_full : goal.returns-then-is_full
-returns-then-is_full g c =
+pub returns-then-standing-2 : goal.returns-then-standing-2
+returns-then-standing-2 g c =
     let book = c.args.work.now.book in
-    none_asked book.asking book.slots c.args.desk.now.asked (c.is_empty.ensures.0 c.if-is_empty.true) c.requires.all
+    none_asked book.asking book.slots (g.K.Requests.asked c.args.desk.now) (c.standing-standing.ensures.empty c.if-standing.true) c.requires.all

@@ -5,7 +5,7 @@ use Rattle.mx_save_urls.proofs.turns.take_turns.Given as goal
 
 abbrev pub invariant-loop : goal.invariant-loop
 invariant-loop g l = record {
-  all : AreAsked l.work.book.asking l.work.book.slots l.desk.asked;
+  all : AreAsked l.work.book.asking l.work.book.slots (g.K.Requests.asked l.desk);
   waits : AreBroughtOn l.work.book.slots l.work.waiting;
   going : l.work.book.is_stopped ≡ false;
   run : IsSameWork l.fn.work l.work;

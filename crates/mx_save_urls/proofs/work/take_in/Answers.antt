@@ -1,5 +1,5 @@
-use Rattle.std.proofs.Common.{◌∙◌, sym, subst}
-use Rattle.std.specs.Prelude.{IfSome}
+use Rattle.std.proofs.Common.{◌∙◌, ap, sym, subst}
+use Rattle.std.specs.Prelude.{IfSome, slice_get}
 use Rattle.mx_request.specs.Request.{IsRequest}
 use Rattle.mx_save_book.specs.Books.{IsJobFor}
 use Rattle.mx_save_book.specs.Jobs.{Asks}
@@ -30,6 +30,14 @@ returns-clause-asked g c =
       subst (λ a. IsJobFor a c.skip.new.self.slots c.args.at c.in-Some.request) (sym (c.skip.ensures.run.asking ∙ c.admit.ensures.run.asking))
           (subst (λ l. IsJobFor book.asking l c.args.at c.in-Some.request) (sym (not_skipped c.admit.new.self.slots c.skip.new.self.slots c.args.at c.in_ok-skip.field-0 c.if-branch.false c.in_ok-skip.ensures.slots)) is),
       asked.1,
+    )
+
+pub returns-clause-stands : goal.returns-clause-stands
+returns-clause-stands g c =
+    let stands = match_some _ _ c.in_ok-request.field-0 c.in-Some.request c.in-Some.is c.in_ok-request.ensures.stands in (
+      stands.job,
+      ap (λ l. slice_get l c.args.at)
+          (not_skipped c.admit.new.self.slots c.skip.new.self.slots c.args.at c.in_ok-skip.field-0 c.if-branch.false c.in_ok-skip.ensures.slots) ∙ stands.waits,
     )
 
 pub returns-then-branch-clause-others : goal.returns-then-branch-clause-others

@@ -1,7 +1,11 @@
 use Rattle.std.proofs.Common.{subst, sym}
+use Rattle.mx_save_book.specs.Books.{HasOpen}
 use Rattle.mx_save_urls.specs.Works.{OthersAreBroughtOn}
 use Rattle.mx_save_urls.proofs.Waits.{all_set}
 use Rattle.mx_save_urls.proofs.work.Work.add.Goals as goal
+
+pub add-requires : goal.add-requires
+add-requires g c = record { begun = subst (λ w. HasOpen w.book.slots c.args.at) (sym c.self.view_is) c.requires.open }
 
 pub returns-clause-waits : goal.returns-clause-waits
 returns-clause-waits g c =

@@ -1,6 +1,6 @@
 use Rattle.std.proofs.Common.{subst, sym}
 use Rattle.std.proofs.lemmas.Result.{IfOk-weaker}
-use Rattle.mx_save_book.specs.Books.{IsClosed}
+use Rattle.mx_save_book.specs.Books.{IsAwaited, IsClosed}
 use Rattle.mx_fetch.proofs.Lists.{on_ok}
 use Rattle.mx_save_urls.specs.Works.{AreBroughtOn}
 use Rattle.mx_save_urls.proofs.Waits.{closed_on, left_none}
@@ -21,3 +21,6 @@ pub returns-clause-none : goal.returns-clause-none
 returns-clause-none g c =
     let waits = subst (λ w. AreBroughtOn w.book.slots w.waiting) (sym c.self.view_is) c.requires.waits in
     IfOk-weaker c.close.result _ _ (λ delay left. left_none _ _ _ c.args.at delay left waits) c.close.ensures.left
+
+pub close-requires-clause-added : goal.close-requires-clause-added
+close-requires-clause-added g c = subst (λ w. IsAwaited w.book.slots c.args.at) (sym c.self.view_is) c.requires.added
