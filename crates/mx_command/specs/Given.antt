@@ -59,6 +59,7 @@ pub record AreNumbersOf (given : Found) (n : SaveNumbers) : Type 0 where
   pub options : AreOptionsOf given n.options
   pub retries : number_of given (codes "retry") ≡ Some n.retries
   pub history : number_of given (codes "history") ≡ Some n.history
+  pub most_bytes : number_of given (codes "max-filesize") ≡ n.most_bytes
 
 -- whether progress is shown, where that is asked for, and where it is forbidden
 abbrev pub progress_by : Bool → Bool → Option Bool

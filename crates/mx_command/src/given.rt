@@ -28,6 +28,13 @@ pub(crate) fn word_of(given: &ArgMatches<'_>, id: &str) -> Option<u32>
     given.get_one::<u32>(id)
 }
 
+/// The number of an option of at most 18,446,744,073,709,551,615, if it has one.
+pub(crate) fn long_of(given: &ArgMatches<'_>, id: &str) -> Option<u64>
+    ensures { IfSome result (λ n. number_of (found_of given.now) id.now ≡ Some n) }
+{
+    given.get_one::<u64>(id)
+}
+
 /// Whether an option was given that takes no value.
 pub(crate) fn flag_of(given: &ArgMatches<'_>, id: &str) -> bool
     ensures { IsFlagOf (found_of given.now) id.now result }

@@ -25,8 +25,8 @@ pub const GET: &str = "Fetch URLs, and print what each ended with";
 /// What `get` does.
 pub const LONG_GET: &str =
     "Fetch 1 to 256 URLs of scheme http by GET, with workers on threads that keep
-their connections. When all have ended, each prints a line, its body and the end
-of a line, in the order of the URLs:
+their connections. Each prints a line, its body and the end of a line, in the
+order of the URLs, once it and all before it have ended:
 
     transfer H code C status S length B
 

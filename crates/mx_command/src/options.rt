@@ -18,6 +18,8 @@ pub(crate) enum Takes {
     Text(&'static str),
     /// A number from the first to the second.
     Number(u32, u32),
+    /// A number of bytes from 1 to 9,223,372,036,854,775,807.
+    Bytes,
     /// The name of a method.
     Method,
 }
@@ -44,6 +46,12 @@ fn number_arg<'a>(arg: Arg<'a>, least: u32, most: u32) -> Arg<'a> {
     arg.value_name("N").value_parser(numbers)
 }
 
+// An argument that takes a number of bytes.
+fn bytes_arg<'a>(arg: Arg<'a>) -> Arg<'a> {
+    let numbers = value_parser!(u64).range(1..=i64::MAX);
+    arg.value_name("N").value_parser(numbers)
+}
+
 /// An argument that takes the name of a method.
 pub(crate) fn method_arg<'a>(arg: Arg<'a>) -> Arg<'a> {
     arg.value_parser(METHODS.as_slice())
@@ -65,6 +73,7 @@ fn taking<'a>(arg: Arg<'a>, takes: Takes) -> Result<Arg<'a>, AllocError> {
         Takes::Word(value) => Ok(arg.value_name(value)),
         Takes::Text(value) => Ok(arg.value_name(value).allow_hyphen_values(true)),
         Takes::Number(least, most) => Ok(number_arg(arg, least, most)),
+        Takes::Bytes => Ok(bytes_arg(arg)),
         Takes::Method => Ok(method_arg(arg.value_name("M"))),
     }
 }

@@ -1,11 +1,13 @@
 //! What `save` is asked for.
+ghost use Rattle.std.specs.Prelude.{◌↔◌, IsTrue, IfSome};
+ghost use Rattle.mx_command.specs.Saving.{AreSaveNumbers, IsBodyLimit};
 
 pub(crate) mod help;
 pub(crate) mod options;
 pub(crate) mod read;
 
 use mx_run_io::Options;
-use mx_types::Method;
+use mx_types::{LEAST_HISTORY, MOST_HISTORY, Method};
 
 /// Where further URLs are read, one a line.
 #[derive(Clone, Copy)]
@@ -41,6 +43,33 @@ pub struct SaveNumbers {
     pub retries: u8,
     /// The events of the multi handle: 4 to 1,048,576.
     pub history: u32,
+    /// The most bytes that a body may have, where there is a limit: 1 to 9,223,372,036,854,775,807.
+    pub most_bytes: Option<u64>,
+}
+
+/// The greatest limit of the bytes of a body.
+pub(crate) const GREATEST_LIMIT: u64 = 9_223_372_036_854_775_807;
+
+// rule save-limit
+// Whether a body may have that limit, or there is none.
+fn is_limit(most_bytes: Option<u64>) -> bool
+    ensures { IsTrue result ↔ IfSome most_bytes IsBodyLimit }
+{
+    match most_bytes {
+        Some(limit) => (1..=GREATEST_LIMIT).contains(&limit),
+        None => true,
+    }
+}
+
+impl SaveNumbers {
+    /// Whether each number is within its limits.
+    pub fn are_within(&self) -> bool
+        ensures { IsTrue result ↔ AreSaveNumbers self.now }
+    {
+        self.options.are_within()
+            && (LEAST_HISTORY..=MOST_HISTORY).contains(&self.history)
+            && is_limit(self.most_bytes)
+    }
 }
 
 /// What `save` does or leaves.

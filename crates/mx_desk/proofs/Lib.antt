@@ -1,3 +1,4 @@
+mod Backs
 pub mod Desks
 mod Reading
 mod Ties

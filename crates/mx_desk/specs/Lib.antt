@@ -1,4 +1,5 @@
 pub mod Additions
+pub mod Adding
 pub mod Calls
 pub mod Desks
 pub mod Ties

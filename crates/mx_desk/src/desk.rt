@@ -4,6 +4,7 @@ ghost use Rattle.mx_types.specs.declared.call.Call.{Call};
 ghost use Rattle.mx_types.specs.declared.reply.Reply.{Reply};
 ghost use Rattle.mx_request.specs.Request.{request_origin};
 ghost use Rattle.mx_lock.specs.Ties.{Has, tie};
+ghost use Rattle.mx_desk.specs.Adding.{HandsBack, IfMade, MatchAdding};
 ghost use Rattle.mx_desk.specs.Additions.{AreAtFirst, IsTold, awaits_at};
 ghost use Rattle.mx_multi.specs.Seats.{Stands};
 ghost use Rattle.mx_desk.specs.Calls.{AtLast, IsRefused, handle_at};
@@ -11,6 +12,7 @@ ghost use Rattle.mx_desk.specs.Desks.{HasRoom, IsNewDesk};
 ghost use Rattle.mx_desk.specs.Ties.{AreLater, ties_at, ties_of};
 ghost use Rattle.mx_run_io.specs.declared.stop.Stop.TheVariants as stop;
 
+use crate::adding::Adding;
 use crate::addition::Addition;
 use crate::seats::{Seats, Told};
 use mx_chain::Outcome;
@@ -103,24 +105,20 @@ fn add_at<L: Link, D: Delivery, R: Wait + AllocGlobal>(
     at: usize,
     request: Request,
     delivery: D,
-) -> Result<Option<Addition>, Stop>
+) -> Adding<Addition, D>
     requires { D.handed delivery ≡ [] }
-    ensures free { IfOk result (λ o. IfSome o (λ _. slice_get additions.now at ≡ Some None)) }
-    ensures request { IfOk result (λ o. IfSome o (λ a. a.request ≡ request)) }
-    ensures told { IfOk result (λ o. IfSome o (λ a. IsTold (ties_at (ties_of seats.new) a.beside) a)) }
-    ensures place { IfOk result (λ o. IfSome o (λ a. a.beside ≡ is_some seats.old.beside)) }
-    ensures stands { IfOk result (λ o. IfSome o (λ a. AtLast (λ s t. Stands s t (Call.Add (handle_at at)) (Reply.Added a.ticket)) seats.old seats.new)) }
-    ensures none { IfOk result (λ o. IfNone o ((((slice_get additions.now at ≡ Some None → ⊥) ⊎ (2 ^ 32 ≤ at)) × (seats.new ≡ seats.old)) ⊎ AtLast (IsRefused (handle_at at)) seats.old seats.new)) }
-    ensures why { IfErr result (λ e. e ≡ stop.OutOfMemory) }
+    ensures free { IfMade result (λ _. slice_get additions.now at ≡ Some None) }
+    ensures request { IfMade result (λ a. a.request ≡ request) }
+    ensures told { IfMade result (λ a. IsTold (ties_at (ties_of seats.new) a.beside) a) }
+    ensures place { IfMade result (λ a. a.beside ≡ is_some seats.old.beside) }
+    ensures stands { IfMade result (λ a. AtLast (λ s t. Stands s t (Call.Add (handle_at at)) (Reply.Added a.ticket)) seats.old seats.new) }
+    ensures none { MatchAdding result (λ _. Unit {0}) ((((slice_get additions.now at ≡ Some None → ⊥) ⊎ (2 ^ 32 ≤ at)) × (seats.new ≡ seats.old)) ⊎ AtLast (IsRefused (handle_at at)) seats.old seats.new) (Unit {0}) }
+    ensures back { HandsBack D.handed request result }
     ensures later { AreLater (ties_of seats.old) (ties_of seats.new) }
 {
     match free_handle(additions, at) {
         Some(handle) => seats.add(rt, handle, request, delivery),
-        None => {
-            drop(request);
-            drop(delivery);
-            Ok(None)
-        }
+        None => Adding::Refused(request, delivery),
     }
 }
 
@@ -294,22 +292,21 @@ impl<'e, 'm, L: Link, D: Delivery> Desk<'e, 'm, L, D> {
 
     // rule save-requests
     /// Adds a request, with its delivery, which has no content yet, under a number, under which nothing is added, at the seat that came last.
-    /// Its ticket comes back; None where the multi handle takes no more, since its history has no room, or there is no such number, or
-    /// something is added under it. Then, and after an error, which is `OutOfMemory`, what is added is as it was, and the delivery is dropped.
+    /// Its ticket comes back. It is refused where the multi handle takes no more, since its history has no room, or there is no such number, or
+    /// something is added under it, and where memory is refused: then what is added is as it was, and the request and its delivery come back.
     pub fn add<R: Wait + AllocGlobal>(
         &mut self,
         rt: &R,
         at: usize,
         request: Request,
         delivery: D,
-    ) -> Result<Option<Ticket>, Stop>
+    ) -> Adding<Ticket, D>
         requires room { HasRoom self.old }
         requires none { D.handed delivery ≡ [] }
-        ensures added { IfOk result (λ o. MatchOption o (Stays self.old self.new) (λ _. Adds self.old self.new at request)) }
-        ensures stands { IfOk result (λ o. MatchOption o (AddsNone self.old self.new at) (λ ticket. StandsAdded self.old self.new at ticket request)) }
-        ensures kept { OnErr result (Stays self.old self.new) }
-        ensures still { OnErr result ((self.new.added ≡ self.old.added) × (self.new.full ≡ self.old.full)) }
-        ensures why { IfErr result (λ e. e ≡ stop.OutOfMemory) }
+        ensures added { MatchAdding result (λ _. Adds self.old self.new at request) (Stays self.old self.new) (Stays self.old self.new) }
+        ensures stands { MatchAdding result (λ ticket. StandsAdded self.old self.new at ticket request) (AddsNone self.old self.new at)
+            ((self.new.added ≡ self.old.added) × (self.new.full ≡ self.old.full)) }
+        ensures back { HandsBack D.handed request result }
     {
         let added = add_at(
             rt,
@@ -320,20 +317,20 @@ impl<'e, 'm, L: Link, D: Delivery> Desk<'e, 'm, L, D> {
             delivery,
         );
         match added {
-            Ok(Some(addition)) => {
+            Adding::Made(addition) => {
                 let ticket = addition.ticket();
                 self.beside = self
                     .beside
                     .saturating_add(usize::from(addition.is_beside()));
                 put(&mut self.additions, at, Some(addition));
                 self.waiting += 1;
-                Ok(Some(ticket))
+                Adding::Made(ticket)
             }
-            Ok(None) => {
+            Adding::Refused(request, delivery) => {
                 self.is_full = true;
-                Ok(None)
+                Adding::Refused(request, delivery)
             }
-            Err(stop) => Err(stop),
+            Adding::OutOfMemory(request, delivery) => Adding::OutOfMemory(request, delivery),
         }
     }
 

@@ -5,13 +5,15 @@ ghost use Rattle.mx_types.specs.declared.reply.Reply.{Reply};
 ghost use mathlib.Core.List.{IsPrefix};
 ghost use Rattle.mx_request.specs.Request.{request_origin};
 ghost use Rattle.mx_lock.specs.Ties.{Has, tie};
+ghost use Rattle.mx_desk.specs.Adding.{AnswersSo, HandsBack, IfMade, MatchAdding};
 ghost use Rattle.mx_desk.specs.Additions.{IsTold};
 ghost use Rattle.mx_message.specs.Message.{Waited};
 ghost use Rattle.mx_multi.specs.Seats.{Stands};
-ghost use Rattle.mx_desk.specs.Calls.{AtLast, AtSeat, FreesAt, IsFreed, IsRefused, ReadsMessage, Wait, is_refusal};
+ghost use Rattle.mx_desk.specs.Calls.{AtLast, AtSeat, FreesAt, IsFreed, IsRefused, ReadsMessage, Wait};
 ghost use Rattle.mx_desk.specs.Ties.{AreLater, ties_at, ties_of, two};
 ghost use Rattle.mx_run_io.specs.declared.stop.Stop.TheVariants as stop;
 
+use crate::adding::Adding;
 use crate::addition::Addition;
 use mx_chain::Outcome;
 use mx_journal::{AddReply, RemoveReply};
@@ -23,7 +25,7 @@ use mx_run_io::Stop;
 use mx_sink::Delivery;
 use mx_transfer::Queued;
 use mx_types::{HandleId, Ticket};
-use std::alloc::AllocGlobal;
+use std::alloc::{AllocFailed, AllocGlobal};
 use std::marker::Model;
 use std::rt::Clock;
 use std::snapshot::Snapshot;
@@ -39,17 +41,53 @@ pub(crate) struct Told<D: Delivery> {
     pub is_beside: bool,
 }
 
-// The ticket of an addition that was made; None where the multi handle takes no more: its history is full, its tickets are spent, or the
-// handle is added already. It is generic over the work, so that what is handed back is dropped as one value.
-fn added<Q: Drop>(answer: Result<AddReply<Q>, WrongSeat<Q>>) -> Result<Option<Ticket>, Stop>
-    ensures ticket { IfOk result (λ o. IfSome o (λ t. answer ≡ Ok (AddReply.Added t))) }
-    ensures none { IfOk result (λ o. IfNone o (is_refusal answer ≡ true)) }
-    ensures why { IfErr result (λ e. e ≡ stop.OutOfMemory) }
+/// What a seat answered to an addition: its ticket, or the work that comes back.
+#[derive(Drop)]
+pub(crate) enum Answered<Q> {
+    Made(Ticket),
+    Refused(Q),
+    OutOfMemory(Q),
+}
+
+// What a seat answered to an addition. The multi handle takes no more where its history is full, its tickets are spent, or the handle is added
+// already.
+fn answer_of<Q>(answer: Result<AddReply<Q>, WrongSeat<Q>>) -> Answered<Q>
+    ensures { AnswersSo answer result }
 {
     match answer {
-        Ok(AddReply::Added(ticket)) => Ok(Some(ticket)),
-        Ok(AddReply::OutOfMemory(_)) => Err(Stop::OutOfMemory),
-        _ => Ok(None),
+        Ok(AddReply::Added(ticket)) => Answered::Made(ticket),
+        Ok(AddReply::AddedAlready(work)) => Answered::Refused(work),
+        Ok(AddReply::TableFull(work)) => Answered::Refused(work),
+        Ok(AddReply::TicketsSpent(work)) => Answered::Refused(work),
+        Ok(AddReply::HistoryFull(work)) => Answered::Refused(work),
+        Ok(AddReply::OutOfMemory(work)) => Answered::OutOfMemory(work),
+        Err(WrongSeat(work)) => Answered::Refused(work),
+    }
+}
+
+// Adds work under this handle, if the multi handle takes it.
+fn add_work<L: Link, D: Delivery, R: Wait>(
+    rt: &R,
+    seat: &mut Seated<'_, Application, Queued<L, D>, Outcome<D>>,
+    handle: HandleId,
+    work: Queued<L, D>,
+) -> Adding<Ticket, D>
+    requires { work.chain.content ≡ [] }
+    ensures told { IfMade result (λ t. Has seat.new.ties (tie t (request_origin work.chain.request))) }
+    ensures stands { MatchAdding result (λ t. Stands seat.old seat.new (Call.Add handle) (Reply.Added t)) (IsRefused handle seat.old seat.new) (Unit {0}) }
+    ensures back { HandsBack D.handed work.chain.request result }
+    ensures later { IsPrefix seat.old.ties seat.new.ties }
+{
+    match answer_of(seat.add(rt, handle, work)) {
+        Answered::Made(ticket) => Adding::Made(ticket),
+        Answered::Refused(work) => {
+            let (request, delivery) = work.into_parts();
+            Adding::Refused(request, delivery)
+        }
+        Answered::OutOfMemory(work) => {
+            let (request, delivery) = work.into_parts();
+            Adding::OutOfMemory(request, delivery)
+        }
     }
 }
 
@@ -61,24 +99,36 @@ fn add_transfer<L: Link, D: Delivery, R: Wait + AllocGlobal>(
     handle: HandleId,
     request: Request,
     delivery: D,
-) -> Result<Option<Addition>, Stop>
+) -> Adding<Addition, D>
     requires { D.handed delivery ≡ [] }
-    ensures request { IfOk result (λ o. IfSome o (λ a. a.request ≡ request)) }
-    ensures told { IfOk result (λ o. IfSome o (IsTold seat.new.ties)) }
-    ensures place { IfOk result (λ o. IfSome o (λ a. a.beside ≡ is_beside)) }
-    ensures stands { IfOk result (λ o. MatchOption o (IsRefused handle seat.old seat.new) (λ a. Stands seat.old seat.new (Call.Add handle) (Reply.Added a.ticket))) }
-    ensures why { IfErr result (λ e. e ≡ stop.OutOfMemory) }
+    ensures request { IfMade result (λ a. a.request ≡ request) }
+    ensures told { IfMade result (IsTold seat.new.ties) }
+    ensures place { IfMade result (λ a. a.beside ≡ is_beside) }
+    ensures stands { MatchAdding result (λ a. Stands seat.old seat.new (Call.Add handle) (Reply.Added a.ticket)) (IsRefused handle seat.old seat.new) (Unit {0}) }
+    ensures back { HandsBack D.handed request result }
     ensures later { IsPrefix seat.old.ties seat.new.ties }
 {
     // proof: what holds of a request
     request.know();
     let asked = Snapshot::of(&request);
-    let Ok(work) = Queued::delivering(rt.alloc(), request, delivery) else {
-        return Err(Stop::OutOfMemory);
+    let work = match Queued::delivering(rt.alloc(), request, delivery) {
+        Ok(work) => work,
+        Err(AllocFailed { value }) => {
+            drop(asked);
+            let (request, delivery) = value;
+            return Adding::OutOfMemory(request, delivery);
+        }
     };
-    match added(seat.add(rt, handle, work))? {
-        Some(ticket) => Ok(Some(Addition::new(ticket, is_beside, asked))),
-        None => Ok(None),
+    match add_work(rt, seat, handle, work) {
+        Adding::Made(ticket) => Adding::Made(Addition::new(ticket, is_beside, asked)),
+        Adding::Refused(request, delivery) => {
+            drop(asked);
+            Adding::Refused(request, delivery)
+        }
+        Adding::OutOfMemory(request, delivery) => {
+            drop(asked);
+            Adding::OutOfMemory(request, delivery)
+        }
     }
 }
 
@@ -211,13 +261,13 @@ impl<'e, 'm, L: Link, D: Delivery> Seats<'e, 'm, L, D> {
         handle: HandleId,
         request: Request,
         delivery: D,
-    ) -> Result<Option<Addition>, Stop>
+    ) -> Adding<Addition, D>
         requires { D.handed delivery ≡ [] }
-        ensures request { IfOk result (λ o. IfSome o (λ a. a.request ≡ request)) }
-        ensures told { IfOk result (λ o. IfSome o (λ a. IsTold (ties_at (ties_of self.new) a.beside) a)) }
-        ensures place { IfOk result (λ o. IfSome o (λ a. a.beside ≡ is_some self.old.beside)) }
-        ensures stands { IfOk result (λ o. MatchOption o (AtLast (IsRefused handle) self.old self.new) (λ a. AtLast (λ s t. Stands s t (Call.Add handle) (Reply.Added a.ticket)) self.old self.new)) }
-        ensures why { IfErr result (λ e. e ≡ stop.OutOfMemory) }
+        ensures request { IfMade result (λ a. a.request ≡ request) }
+        ensures told { IfMade result (λ a. IsTold (ties_at (ties_of self.new) a.beside) a) }
+        ensures place { IfMade result (λ a. a.beside ≡ is_some self.old.beside) }
+        ensures stands { MatchAdding result (λ a. AtLast (λ s t. Stands s t (Call.Add handle) (Reply.Added a.ticket)) self.old self.new) (AtLast (IsRefused handle) self.old self.new) (Unit {0}) }
+        ensures back { HandsBack D.handed request result }
         ensures later { AreLater (ties_of self.old) (ties_of self.new) }
     {
         match &mut self.beside {

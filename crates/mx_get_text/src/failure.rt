@@ -2,10 +2,11 @@
 ghost use Rattle.std.specs.Prelude.{◌≡◌, ◌≢◌, length};
 ghost use Rattle.mx_types.specs.declared.code.Code.TheVariants as codes;
 ghost use Rattle.mx_chain.specs.Outcomes.{is_unfollowed_code};
-ghost use Rattle.mx_get_text.specs.Failures.{IsWhy};
+ghost use Rattle.mx_get_text.specs.Failures.{IsWhy, IsFlowingWhy};
 
 use mx_chain::Outcome;
 use mx_reason::{Reason, reason_of};
+use mx_sink::Delivery;
 use mx_types::{Code, Method};
 use std::alloc::Global;
 use std::marker::Model;
@@ -53,7 +54,7 @@ fn is_unfollowed(code: Code) -> bool
 }
 
 /// The method of the last hop's request.
-pub fn last_method(outcome: &Outcome) -> Method
+pub fn last_method<D: Delivery>(outcome: &Outcome<D>) -> Method
     ensures { result ≡ outcome.now.last.request.method }
 {
     match outcome.hop_request(outcome.hops() - 1) {
@@ -71,6 +72,25 @@ pub fn why_of(alloc: Global, outcome: &Outcome) -> Option<Reason>
         return None;
     }
     reason_of(alloc, last_method(outcome), outcome.wire())
+}
+
+// rule get-body-failures
+/// The same of a response whose content is handed on. `None`, too, where the body is too large, where content couldn't be written, and where
+/// the code is `Ok`.
+pub fn flowing_why_of<D: Delivery>(outcome: &Outcome<D>) -> Option<Reason>
+    ensures { IsFlowingWhy outcome.now result }
+{
+    let code = outcome.code();
+    match code {
+        Code::Ok | Code::WriteError => None,
+        Code::FilesizeExceeded => {
+            // proof: what holds of an outcome
+            outcome.know_end();
+            None
+        }
+        _ if is_unfollowed(code) => None,
+        _ => outcome.why(),
+    }
 }
 
 impl Failure {

@@ -9,6 +9,7 @@ mod run;
 mod text;
 
 pub use crate::asking::build_get;
-pub use crate::failure::{Failure, last_method, why_of};
+pub use crate::failure::{Failure, flowing_why_of, last_method, why_of};
 pub use crate::fetched::Fetched;
 pub use crate::run::print_get;
+pub use crate::text::print_transfer;

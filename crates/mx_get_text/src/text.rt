@@ -23,6 +23,7 @@ fn print_line<W: Write>(
 ) -> Result<(), WriteFailed>
     ensures bytes { OnOk result (Wrote W.contents output.old output.new (transfer_line handle code status len)) }
     ensures failed { IsErr result ↔ (has_failed_write output.new ≡ true) }
+    ensures stays { has_failed_write output.old ≡ true → has_failed_write output.new ≡ true }
 {
     output.print(format_args!("transfer {handle} code {code} status {status} length {len}\n"))
 }
@@ -52,6 +53,7 @@ fn print_outcome<W: Write>(
         (transfer_line handle (code_number outcome.now.code) outcome.now.status (length (content_of outcome.now.code outcome.now))
         ++ content_of outcome.now.code outcome.now)) }
     ensures failed { IsErr result ↔ (has_failed_write output.new ≡ true) }
+    ensures stays { has_failed_write output.old ≡ true → has_failed_write output.new ≡ true }
 {
     let code = outcome.code();
     match code {
@@ -73,6 +75,7 @@ fn print_failure<W: Write>(
         (transfer_line handle (code_number failure.now.code) failure.now.status (length (content_of failure.now.code failure.now))
         ++ content_of failure.now.code failure.now)) }
     ensures failed { IsErr result ↔ (has_failed_write output.new ≡ true) }
+    ensures stays { has_failed_write output.old ≡ true → has_failed_write output.new ≡ true }
 {
     let code = failure.code();
     print_line(output, handle, code.number(), failure.status(), 0)
@@ -86,6 +89,7 @@ pub fn print_transfer<W: Write>(
 ) -> Result<(), WriteFailed>
     ensures bytes { OnOk result (Wrote W.contents output.old output.new (transfer_text handle fetched.now)) }
     ensures failed { IsErr result ↔ (has_failed_write output.new ≡ true) }
+    ensures stays { has_failed_write output.old ≡ true → has_failed_write output.new ≡ true }
 {
     match fetched {
         Fetched::Refused(code) => print_line(output, handle, code.number(), 0, 0)?,

@@ -1,5 +1,5 @@
 -- What an outcome is kept as.
-use Rattle.std.proofs.Common.{◌≡◌, true, false, refl, inl, inr}
+use Rattle.std.proofs.Common.{◌≡◌, refl, inl, inr}
 use Rattle.std.specs.Prelude.{Ok}
 use Rattle.mx_types.specs.declared.code.Code.TheVariants as code
 use Rattle.mx_exchange.specs.Hops.{HasContent}

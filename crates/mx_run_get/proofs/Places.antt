@@ -1,65 +1,16 @@
--- The ends at places, and at how many of them an end is awaited.
-use Rattle.std.proofs.Common.{◌≡◌, ◌∙◌, refl, ap, sym, subst, ℕ, ◌+◌, ◌<◌, suc, zero, List, [], ◌∷◌, ◌++◌, map, length, reverse, Bool, true, false, cond, arith}
-use Rattle.std.specs.Prelude.{All, Option, Some, Result, Ok, slice_get, count_by}
-use Rattle.std.proofs.lemmas.List.Sorted.{All-permutation, IsPermutation-reverse}
-use Rattle.std.proofs.lemmas.List.Sums.{sum_by-cons, sum_by_push}
-use Rattle.std.specs.declared.snapshot.Snapshot.{Snapshot}
+-- The ends at places, and those that were taken there.
+use Rattle.std.proofs.Common.{◌≡◌, ◌∙◌, refl, ap, sym, ℕ, ◌<◌, suc, zero, List, [], ◌∷◌, map, length, true, false, inl, inr, arith}
+use Rattle.std.specs.Prelude.{Option, Some, Ok, slice_get, slice_set}
 use Rattle.mx_request.specs.Request.{RequestValue}
 use Rattle.mx_chain.specs.Outcomes.{OutcomeValue}
+use Rattle.mx_fetch.proofs.Lists.{cases}
 use Rattle.mx_get_text.specs.declared.fetched.Fetched.{Fetched}
-use Rattle.mx_get_text.specs.Fetched.{fetched_of}
 use Rattle.mx_run_get.proofs.Ends.{asked_kept}
-use Rattle.mx_run_get.specs.Asked.{IsEnd}
-use Rattle.mx_run_get.specs.Places.{asked_at, is_awaiting, is_awaiting_at, noted_at}
+use Rattle.mx_run_get.specs.Asked.{asked_of}
+use Rattle.mx_run_get.specs.Getting.{AreAwaited}
+use Rattle.mx_run_get.specs.Places.{TakesAt, asked_at, is_awaiting, is_awaiting_at, noted_at}
 use Rattle.mx_run_get.specs.declared.place.Place.{Place}
-use Rattle.mx_run_get.specs.declared.place.Place.TheVariants.{Awaited, Known}
-
--- the ends in the order of the places
-pub ends_reversed : (ends : List Fetched) → All IsEnd ends → All IsEnd (reverse ends)
-ends_reversed ends all = All-permutation IsEnd ends (reverse ends) (IsPermutation-reverse ends) all
-
--- one at a place
-weight : Place → ℕ
-weight p = cond (is_awaiting p) 1 0
-
--- one place more, at the front and at the end
-front : (p : Place) (ps : List Place) → count_by is_awaiting (p ∷ ps) ≡ weight p + count_by is_awaiting ps
-unfolding weight
-front p ps = sum_by-cons (λ q. cond (is_awaiting q) 1 0) p ps
-
-behind : (ps : List Place) (p : Place) → count_by is_awaiting (ps ++ p ∷ []) ≡ count_by is_awaiting ps + weight p
-unfolding weight
-behind ps p = sum_by_push (λ q. cond (is_awaiting q) 1 0) ps p
-
-weighs_one : (p : Place) → is_awaiting p ≡ true → weight p ≡ 1
-unfolding weight
-weighs_one p is = ap (λ b. cond b 1 0) is
-
-weighs_none : (p : Place) → (is_awaiting p ≡ true → ⊥) → weight p ≡ 0
-unfolding weight
-weighs_none (Awaited request) is = absurd (is refl)
-weighs_none (Known end) is = refl
-
--- where none waits, none does but for the last, which is known
-pub none_before : (ps : List Place) (p : Place) → count_by is_awaiting (ps ++ p ∷ []) ≡ 0 → count_by is_awaiting ps ≡ 0
-none_before ps p none = omega (arith, behind ps p, none)
-
-pub last_known : (ps : List Place) (p : Place) → count_by is_awaiting (ps ++ p ∷ []) ≡ 0 → is_awaiting p ≡ false
-last_known ps (Awaited request) none = absurd (omega (arith, behind ps (Awaited request), weighs_one (Awaited request) refl, none))
-last_known ps (Known end) none = refl
-
--- where none waits, none does at any place, and the other way round
-pub none_at : (ps : List Place) (i : ℕ) (p : Place) → count_by is_awaiting ps ≡ 0 → slice_get ps i ≡ Some p → is_awaiting p ≡ true → ⊥
-none_at [] i p none is waits = absurd (cc)
-none_at (q ∷ qs) zero p none is waits =
-    let same : q ≡ p = cc in omega (arith, front q qs, weighs_one q (subst (λ r. is_awaiting r ≡ true) (sym same) waits), none)
-none_at (q ∷ qs) (suc i) p none is waits = none_at qs i p (omega (arith, front q qs, none)) is waits
-
-pub none_waits : (ps : List Place) → ((i : ℕ) (p : Place) → slice_get ps i ≡ Some p → is_awaiting p ≡ true → ⊥) → count_by is_awaiting ps ≡ 0
-none_waits [] none = refl
-none_waits (p ∷ ps) none =
-    let rest = none_waits ps (λ i q is waits. none (suc i) q is waits) in
-    omega (arith, front p ps, weighs_none p (λ waits. none zero p refl waits), rest)
+use Rattle.mx_run_get.specs.declared.place.Place.TheVariants.{Known, Taken}
 
 -- a place at which an end is awaited is there
 pub awaits_inside : (places : List Place) (i : ℕ) → is_awaiting_at places i ≡ true → i < length places
@@ -74,3 +25,21 @@ pub note_keeps : (places : List Place) (i : ℕ) (o : OutcomeValue)
 note_keeps [] i o asked is = refl
 note_keeps (p ∷ ps) zero o asked is = ap (λ a. a ∷ map asked_at ps) (asked_kept o ∙ sym (asked p refl is))
 note_keeps (p ∷ ps) (suc i) o asked is = ap (λ rest. asked_at p ∷ rest) (note_keeps ps i o (λ q there waits. asked q there waits) is)
+
+-- so it is where an end is taken
+set_keeps : (places : List Place) (i : ℕ) (p q : Place) → slice_get places i ≡ Some p → asked_at q ≡ asked_at p → map asked_at (slice_set places i q) ≡ map asked_at places
+set_keeps [] i p q at same = refl
+set_keeps (r ∷ rs) zero p q at same = let is : r ≡ p = cc in ap (λ a. a ∷ map asked_at rs) (same ∙ ap asked_at (sym is))
+set_keeps (r ∷ rs) (suc i) p q at same = ap (λ rest. asked_at r ∷ rest) (set_keeps rs i p q at same)
+
+pub take_keeps : (places less : List Place) (i : ℕ) (e : Fetched) → TakesAt places i e less → map asked_at less ≡ map asked_at places
+take_keeps places less i e t = ap (map asked_at) t.is ∙ set_keeps places i (Known e) (Taken t.seen) t.known (ap asked_of t.of)
+
+-- and what is awaited is awaited still
+pub take_awaits : (places less : List Place) (i : ℕ) (e : Fetched) (asked : List (Option RequestValue)) → TakesAt places i e less
+    → AreAwaited places asked → AreAwaited less asked
+take_awaits places less i e asked t all j p is waits =
+    elim (cases places i j (Taken t.seen) p (ap (λ l. slice_get l j) (sym t.is) ∙ is)) as (λ _. (r : RequestValue) × (slice_get asked j ≡ Some (Some r)) × (asked_at p ≡ Ok r)) [
+      | inl c ↦ let bad : false ≡ true = ap is_awaiting c.1 ∙ waits in absurd (cc)
+      | inr c ↦ all j p c.1 waits
+    ]

@@ -1,11 +1,10 @@
 -- What is reported of one end more.
-use Rattle.std.proofs.Common.{◌≡◌, Bool, true, false, ℕ, ◌<◌, ◌+◌, List, [], ◌∷◌, ◌++◌, length, take, map, get_or, refl, ap, sym, ◌∙◌, subst, arith, suc, zero, add-one, append_assoc, append-nil}
+use Rattle.std.proofs.Common.{◌≡◌, Bool, true, false, ℕ, ◌<◌, ◌≤◌, ◌+◌, List, [], ◌∷◌, ◌++◌, length, take, map, get_or, refl, ap, sym, ◌∙◌, subst, arith, suc, zero, add-one, append_assoc, append-nil}
 use Rattle.std.specs.Prelude.{Option, Some, Result, Ok, Err, OnOk}
 use Rattle.std.specs.List.{slice_get}
 use Rattle.std.specs.Io.KnownBytes.{Appends}
 use Rattle.std.proofs.KnownBytes.{Appends-nil, Appends-trans}
-use Rattle.std.proofs.lemmas.List.{length-map, take_all}
-use Rattle.std.proofs.lemmas.Option.{slice_get-map}
+use Rattle.std.proofs.lemmas.List.{length-map}
 use Rattle.mx_types.specs.declared.code.Code.{Code}
 use Rattle.mx_reason.specs.declared.reason.Reason.{Reason}
 use Rattle.mx_chain.specs.Hops.{is_ok}
@@ -78,17 +77,29 @@ place [] i y within is = absurd (omega (arith, within))
 place (x ∷ xs) zero y within is = ap Some (sym is)
 place (x ∷ xs) (suc i) y within is = place xs i y (omega (arith, within)) is
 
--- all are reported
-pub all_told : (old new : Option (List ℕ)) (urls : List (List ℕ)) (ends : List Fetched) (n : ℕ) → n ≡ length ends → length urls ≡ length ends
-    → Writes (AreEndTexts (take n urls) (take n ends)) (Appends old new) → Writes (AreEndTexts urls ends) (Appends old new)
-all_told old new urls ends n all many before =
-    let one : take n urls ≡ urls = take_all n urls (omega (arith, all, many)) in
-    let two : take n ends ≡ ends = take_all n ends (omega (arith, all)) in
-    (before.0, subst (λ fs. AreEndTexts urls fs before.0) two (subst (λ us. AreEndTexts us (take n ends) before.0) one before.1), before.2)
+-- all are reported; there may be more URLs
+first_told : (urls : List (List ℕ)) (ends : List Fetched) (n : ℕ) (text : List ℕ) → n ≡ length ends → length ends ≤ length urls
+    → AreEndTexts (take n urls) (take n ends) text → AreEndTexts urls ends text
+first_told [] ends zero text all many is = is
+first_told (u ∷ urls) [] zero text all many is = is
+first_told (u ∷ urls) (e ∷ ends) zero text all many is = absurd (omega (arith, all))
+first_told [] ends (suc n) text all many is = is
+first_told (u ∷ urls) [] (suc n) text all many is = is
+first_told (u ∷ urls) (e ∷ ends) (suc n) text all many is =
+    (is.0, is.1, is.2, first_told urls ends n is.1 (omega (arith, all)) (omega (arith, many)) is.3, is.4)
 
--- there are as many ends as URLs
-pub as_many : {A B C : Type 0} (ends : List A) (urls : List B) (f : A → C) (g : B → C) → map f ends ≡ map g urls → length urls ≡ length ends
-as_many ends urls f g same = sym (length-map urls g) ∙ sym (ap length same) ∙ length-map ends f
+pub all_told : (old new : Option (List ℕ)) (urls : List (List ℕ)) (ends : List Fetched) (n : ℕ) → n ≡ length ends → length ends ≤ length urls
+    → Writes (AreEndTexts (take n urls) (take n ends)) (Appends old new) → Writes (AreEndTexts urls ends) (Appends old new)
+all_told old new urls ends n all many before = (before.0, first_told urls ends n before.0 all many before.1, before.2)
+
+-- there are no more ends than URLs
+take_within : {X : Type 0} (n : ℕ) (xs : List X) → length (take n xs) ≤ length xs
+take_within zero xs = omega arith
+take_within (suc n) [] = omega arith
+take_within (suc n) (x ∷ xs) = let h = take_within n xs in omega (arith, h)
+
+pub no_more : {A B C : Type 0} (ends : List A) (urls : List B) (n : ℕ) (f : A → C) (g : B → C) → map f ends ≡ map g (take n urls) → length ends ≤ length urls
+no_more ends urls n f g same = omega (arith, length-map ends f, ap length same, length-map (take n urls) g, take_within n urls)
 
 -- and the hint after them
 pub run_told : {A E : Type 0} (r : Result A E) (old mid new : Option (List ℕ)) (urls : List (List ℕ)) (ends : List Fetched) (met : Bool)

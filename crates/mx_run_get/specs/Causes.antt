@@ -1,4 +1,4 @@
--- Why a run has no ends to report.
+-- Why a run stopped, in words.
 use Rattle.std.specs.Prelude.{ℕ, List, codes}
 use Rattle.mx_run_get.specs.declared.error.FetchError.{FetchError}
 use Rattle.mx_run_get.specs.declared.error.FetchError.TheVariants as cause

@@ -1,11 +1,9 @@
 -- What a run reports beside what it prints.
 use Rattle.std.specs.Prelude.{◌≡◌, ℕ, Bool, ◌⊎◌, List}
-use Rattle.mx_types.specs.Code.{code_number}
-use Rattle.mx_types.specs.declared.code.Code.TheVariants as codes
-use Rattle.mx_run_io.specs.Faults.{PrintsFault}
 use Rattle.mx_get_text.specs.declared.fetched.Fetched.{Fetched}
 use Rattle.mx_get_text.specs.Texts.{texts_from, exit_status}
 use Rattle.mx_run_get.specs.Asked.{AreEndsOf}
+use Rattle.mx_run_get.specs.Run.{StopsAfter}
 use Rattle.mx_run_get.specs.declared.error.FetchError.{FetchError}
 use Rattle.mx_failure_text.specs.Lines.{Writes, body_line}
 use Rattle.mx_run_get.specs.Explained.{IsRunText}
@@ -20,13 +18,13 @@ pub record ExplainsEnds (timeout_ms max_redirects : ℕ) (urls : List (List ℕ)
   pub met_limit : Bool
   pub told : Writes (IsRunText urls ends met_limit) Told
 
--- Or the fault of a run that has no ends is printed, and its cause is reported.
-pub record ExplainsFault (Printed Told : List ℕ → Type 0) (ends_with : ℕ) : Type 0 where
+-- Or the run stopped early: the fault is printed after ends of the first URLs, and its cause alone is reported.
+pub record ExplainsFault (timeout_ms max_redirects : ℕ) (urls : List (List ℕ)) (Printed Told : List ℕ → Type 0) (ends_with : ℕ) : Type 0 where
   pub cause : FetchError
-  pub printed : PrintsFault (code_number codes.OutOfMemory) Printed ends_with
+  pub printed : StopsAfter timeout_ms max_redirects urls Printed ends_with
   pub told : Told (body_line (cause_words cause) 27)
 
 -- rule program-explain
 abbrev pub ExplainsUrls : ℕ → ℕ → List (List ℕ) → (List ℕ → Type 0) → (List ℕ → Type 0) → ℕ → Type 0
 ExplainsUrls timeout_ms max_redirects urls Printed Told ends_with =
-    ExplainsEnds timeout_ms max_redirects urls Printed Told ends_with ⊎ ExplainsFault Printed Told ends_with
+    ExplainsEnds timeout_ms max_redirects urls Printed Told ends_with ⊎ ExplainsFault timeout_ms max_redirects urls Printed Told ends_with

@@ -6,4 +6,5 @@ pub mod Explains
 pub mod FetchError
 pub mod Getting
 pub mod Places
+pub mod Printer
 pub mod Run

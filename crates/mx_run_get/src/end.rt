@@ -49,6 +49,14 @@ impl UrlEnd {
         }
     }
 
+    /// What holds of every end. It does nothing: a call gives its caller's proof the law.
+    pub fn know(&self)
+        ensures { IsEnd self.now }
+    {
+        // proof: what holds of the end
+        let _fetched = &self.fetched;
+    }
+
     pub fn into_fetched(self) -> Fetched
         ensures same { result ≡ self }
         ensures end { IsEnd result }

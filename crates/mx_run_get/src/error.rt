@@ -1,10 +1,12 @@
-//! Why a run of `get` has no ends to print, or couldn't print them.
+//! Why a run of `get` stopped before each URL had its end, or couldn't print the ends.
 ghost use Rattle.std.specs.Prelude.{◌≡◌};
+ghost use Rattle.mx_run_get.specs.declared.error.FetchError.TheVariants as cause;
 
 use mx_run_io::Stop;
+use std::alloc::AllocError;
 use thiserror::Error;
 
-/// Why a run of `get` has no ends to print, or couldn't print them.
+/// Why a run of `get` stopped before each URL had its end, or couldn't print the ends.
 #[derive(Clone, Copy, Debug, PartialEq, Eq, Error)]
 pub enum FetchError {
     /// There are more URLs than `MOST_URLS`. It is tried first, and nothing is fetched.
@@ -46,6 +48,14 @@ impl FetchError {
             FetchError::NoMessage => 6,
             FetchError::Unwritten => 7,
         }
+    }
+}
+
+impl From<AllocError> for FetchError {
+    ghost from_gives = { λ _ e. e ≡ cause.OutOfMemory };
+
+    fn from(_error: AllocError) -> FetchError {
+        FetchError::OutOfMemory
     }
 }
 

@@ -1,36 +1,37 @@
 //! What is reported of a URL's end.
-ghost use Rattle.std.specs.Prelude.{◌≡◌, ◌<◌, true, IsErr, OnOk, Some, length, map, option_map, slice_get};
+ghost use Rattle.std.specs.Prelude.{◌≡◌, ◌<◌, ◌≤◌, true, IsErr, OnOk, Some, length, map, option_map, slice_get};
 ghost use Rattle.mx_run_io.specs.Ends.{has_failed_write, Wrote};
 ghost use Rattle.mx_chain.specs.Hops.{is_ok};
-ghost use Rattle.mx_get_text.specs.Fetched.{code_of};
 ghost use Rattle.mx_failure_text.specs.Lines.{Writes};
-ghost use Rattle.mx_run_get.specs.Explained.{IsWhyOf, IsEndText, AreEndTexts, IsRunText};
+ghost use Rattle.mx_run_get.specs.Explained.{IsEndText, AreEndTexts, IsRunText};
 
-use mx_failure_text::{FailureReport, print_failure, print_file_limit};
+use crate::printed::PrintedEnd;
+use mx_failure_text::{print_failure, print_file_limit};
 use mx_get_text::Fetched;
 use mx_run_io::{Output, WriteFailed};
 use mx_types::Code;
 use std::io::Write;
 
-/// What is reported of a URL's end: its code, and why it failed, as far as the received bytes show.
-pub fn told_of(fetched: &Fetched) -> FailureReport
-    ensures code { result.code ≡ code_of fetched.now }
-    ensures reason { IsWhyOf fetched.now result.reason }
-{
-    match fetched {
-        Fetched::Refused(code) => FailureReport::by_code(*code),
-        Fetched::Ended(outcome) => FailureReport::by_code(outcome.code()),
-        Fetched::Failed(failure) => FailureReport {
-            code: failure.code(),
-            reason: failure.reason(),
-        },
-    }
-}
-
 fn is_ok(code: Code) -> bool
     ensures { result ≡ is_ok code }
 {
     matches!(code, Code::Ok)
+}
+
+// Prints what is reported of a URL of which this is left.
+fn print_left<W: Write>(
+    output: &mut Output<W>,
+    url: &[u8],
+    end: &PrintedEnd,
+) -> Result<(), WriteFailed>
+    ensures bytes { OnOk result (Writes (IsEndText url.now end.now) (Wrote W.contents output.old output.new)) }
+    ensures failed { IsErr result → has_failed_write output.new ≡ true }
+{
+    let told = end.told();
+    if is_ok(told.code) {
+        return Ok(());
+    }
+    print_failure(output, url, told, told.code)
 }
 
 /// Prints what is reported of a URL that ended so: nothing with code 0, else a line, and then the line of a hint where there is one.
@@ -42,11 +43,7 @@ pub fn print_end<W: Write>(
     ensures bytes { OnOk result (Writes (IsEndText url.now fetched.now) (Wrote W.contents output.old output.new)) }
     ensures failed { IsErr result → has_failed_write output.new ≡ true }
 {
-    let told = told_of(fetched);
-    if is_ok(told.code) {
-        return Ok(());
-    }
-    print_failure(output, url, told, told.code)
+    print_left(output, url, &PrintedEnd::of(fetched))
 }
 
 // The bytes of a URL.
@@ -57,31 +54,31 @@ fn url_at<'a>(urls: &[&'a str], i: usize) -> &'a [u8]
     urls[i].as_bytes()
 }
 
-// Prints what is reported of URLs that ended so, in their order.
+// Prints what is reported of the first URLs, which ended so, in their order.
 fn print_ends<W: Write>(
     output: &mut Output<W>,
     urls: &[&str],
-    ends: &[Fetched],
+    ends: &[PrintedEnd],
 ) -> Result<(), WriteFailed>
-    requires { length urls.now ≡ length ends.now }
+    requires { length ends.now ≤ length urls.now }
     ensures bytes { OnOk result (Writes (AreEndTexts (map (λ u. u.now) urls.now) ends.now) (Wrote W.contents output.old output.new)) }
     ensures failed { IsErr result → has_failed_write output.new ≡ true }
 {
     for (i, end) in ends.iter().enumerate() {
-        print_end(output, url_at(urls, i), end)?;
+        print_left(output, url_at(urls, i), end)?;
     }
     Ok(())
 }
 
 // rule program-file-limit-hint
-/// Prints what is reported of URLs that ended so, in their order, and then a hint, where the run met the limit of open files.
+/// Prints what is reported of the first URLs, which ended so, in their order, and then a hint, where the run met the limit of open files.
 pub(crate) fn print_all<W: Write>(
     output: &mut Output<W>,
     urls: &[&str],
-    ends: &[Fetched],
+    ends: &[PrintedEnd],
     met_limit: bool,
 ) -> Result<(), WriteFailed>
-    requires { length urls.now ≡ length ends.now }
+    requires { length ends.now ≤ length urls.now }
     ensures bytes { OnOk result (Writes (IsRunText (map (λ u. u.now) urls.now) ends.now met_limit) (Wrote W.contents output.old output.new)) }
     ensures failed { IsErr result → has_failed_write output.new ≡ true }
 {

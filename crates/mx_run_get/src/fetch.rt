@@ -1,16 +1,15 @@
 //! A run of workers on threads.
-ghost use Rattle.std.specs.Prelude.{◌≡◌, ◌≢◌, ◌<◌, [], true, Err, IfErr, IfOk, Ok, OnOk, length, map};
+ghost use Rattle.std.specs.Prelude.{◌≡◌, ◌≢◌, ◌<◌, [], true, Err, IfErr, IfOk, Ok, OnOk, length, map, take};
 ghost use Rattle.mx_fetch.specs.declared.turned.Turned.TheVariants as how;
 ghost use Rattle.mx_multi.specs.Opening.{are_within as are_limits_within};
 ghost use Rattle.mx_run_io.specs.Options.{are_within, width};
 ghost use Rattle.mx_run_get.specs.Asked.{AreEndsOf};
-ghost use Rattle.mx_run_get.specs.FetchError.{is_of_run};
-ghost use Rattle.mx_run_get.specs.Getting.{HasLeft, IsSameGetting};
+ghost use Rattle.mx_run_get.specs.Getting.{HasLeft};
 ghost use Rattle.mx_run_get.specs.declared.error.FetchError.TheVariants as fetch_error;
 
 use crate::error::FetchError;
 use crate::getting::Getting;
-use crate::place::ends_at;
+use crate::taker::TakeEnds;
 use mx_crew::Runtime;
 use mx_fetch::{FetchEnd, Room, fetch_over_sockets};
 use mx_get_text::Fetched;
@@ -47,45 +46,71 @@ fn room(options: Options) -> Room
     }
 }
 
-// The ends of a run, where all have ended.
-fn ends_of<'u, R: AllocGlobal>(
-    rt: &R,
-    end: FetchEnd<Getting<'u>>,
-) -> Result<Vec<Fetched>, FetchError>
+/// How a run ended: what took its ends, why it stopped before all had ended, if it did, and whether a connection couldn't be begun since too
+/// many files were open.
+#[derive(Drop)]
+pub(crate) struct RunEnd<T> {
+    pub taker: T,
+    pub stopped: Result<(), Stop>,
+    pub met_file_limit: bool,
+}
+
+// The end of a run. Where all have ended all ends are taken.
+fn end_of<'u, T: TakeEnds + Drop>(end: FetchEnd<Getting<'u, T>>) -> RunEnd<T>
     requires { OnOk end.stopped (HasLeft end.errand.value how.AllEnded) }
-    ensures ends { IfOk result (λ ends. AreEndsOf end.entry.errand.value.options.timeout_ms end.entry.errand.value.options.max_redirects end.entry.errand.value.urls ends.items) }
-    ensures cause { IfErr result (λ e. is_of_run e ≡ true) }
+    ensures first { AreEndsOf end.entry.errand.value.options.timeout_ms end.entry.errand.value.options.max_redirects (take (length (T.taken result.taker)) end.entry.errand.value.urls) (T.taken result.taker) }
+    ensures all { OnOk result.stopped (length (T.taken result.taker) ≡ length end.entry.errand.value.urls) }
+    ensures begun { T.begun result.taker ≡ end.entry.errand.value.begun }
 {
     let FetchEnd {
         errand,
         stopped,
-        ..
+        met_file_limit,
     } = end;
-    match stopped {
-        Ok(()) => Ok(ends_at(rt.alloc(), Box::into_inner(errand).into_places())?),
-        Err(stop) => {
-            drop(errand);
-            Err(FetchError::from(stop))
-        }
+    RunEnd {
+        taker: Box::into_inner(errand).into_taker(),
+        stopped,
+        met_file_limit,
     }
 }
 
-// Fetches with workers over sockets, whose clocks have one start.
-fn fetch_from<R: Runtime + Net<Listener = TcpListener, Stream = TcpStream>>(
-    rt: &R,
-    urls: &[&str],
-    options: Options,
-    start: Instant,
-    met_file_limit: &mut bool,
-) -> Result<Vec<Fetched>, FetchError>
-    requires { are_within options ≡ true }
-    ensures ends { IfOk result (λ ends. AreEndsOf options.timeout_ms options.max_redirects (map (λ u. u.now) urls.now) ends.items) }
-    ensures cause { IfErr result (λ e. is_of_run e ≡ true) }
+// It stopped before it began.
+fn unbegun<T>(taker: T, stop: Stop) -> RunEnd<T>
+    ensures taker { result.taker ≡ taker }
+    ensures stopped { result.stopped ≡ Err stop }
 {
-    let getting = Getting::boxed(rt.alloc(), urls, options)?;
-    let end = fetch_over_sockets::<Held, R, Getting<'_>>(rt, getting, start, room(options), false);
-    *met_file_limit = end.met_file_limit;
-    ends_of(rt, end)
+    RunEnd {
+        taker,
+        stopped: Err(stop),
+        met_file_limit: false,
+    }
+}
+
+/// Fetches the URLs with workers over sockets, whose clocks have one start, and gives their ends, in their order, to what takes them, each as
+/// soon as all before it are given. Where it stops early those of the first URLs are given.
+pub(crate) fn fetch_into<
+    R: Runtime + Net<Listener = TcpListener, Stream = TcpStream>,
+    T: TakeEnds + Drop,
+>(rt: &R, urls: &[&str], options: Options, taker: T) -> RunEnd<T>
+    requires within { are_within options ≡ true }
+    requires none { T.taken taker ≡ [] }
+    ensures first { AreEndsOf options.timeout_ms options.max_redirects (take (length (T.taken result.taker)) (map (λ u. u.now) urls.now)) (T.taken result.taker) }
+    ensures all { OnOk result.stopped (length (T.taken result.taker) ≡ length urls.now) }
+    ensures begun { T.begun result.taker ≡ T.begun taker }
+{
+    let Ok(start) = Instant::now(rt) else {
+        return unbegun(taker, Stop::NoClock);
+    };
+    match Getting::boxed(rt.alloc(), urls, options, taker) {
+        Ok(getting) => end_of(fetch_over_sockets::<Held, R, Getting<'_, T>>(
+            rt,
+            getting,
+            start,
+            room(options),
+            false,
+        )),
+        Err(taker) => unbegun(taker, Stop::OutOfMemory),
+    }
 }
 
 // rule get-url-count: `get` takes 1 to 256 URLs (clauses `many` and `few`).
@@ -117,8 +142,18 @@ pub fn fetch_all<R: Runtime + Net<Listener = TcpListener, Stream = TcpStream>>(
     if urls.len() > MOST_URLS {
         return Err(FetchError::TooManyUrls);
     }
-    match Instant::now(rt) {
-        Ok(start) => fetch_from(rt, urls, options, start, met_file_limit),
-        Err(_) => Err(FetchError::NoClock),
+    let ends = Vec::with_capacity(rt.alloc(), urls.len())?;
+    let RunEnd {
+        taker,
+        stopped,
+        met_file_limit: met,
+    } = fetch_into::<R, Vec<Fetched>>(rt, urls, options, ends);
+    *met_file_limit = met;
+    match stopped {
+        Ok(()) => Ok(taker),
+        Err(stop) => {
+            drop(taker);
+            Err(FetchError::from(stop))
+        }
     }
 }

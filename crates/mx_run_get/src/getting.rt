@@ -1,26 +1,27 @@
-//! What adds the URLs of a run at a desk, and keeps what they ended with.
+//! What adds the URLs of a run at a desk, and gives on what they ended with, in their order.
 ghost use Rattle.std.proofs.Common.{◌∙◌, refl};
-ghost use Rattle.std.specs.Prelude.{◌≡◌, ◌≢◌, ◌<◌, [], false, true, length, map, IfErr, IfOk, IfSome, IsTrue, Ok, OnOk, Some, slice_get};
+ghost use Rattle.std.specs.Prelude.{◌≡◌, ◌≢◌, ◌+◌, ◌<◌, ◌≤◌, List, [], Option, false, true, length, map, IfErr, IfOk, IfSome, IsTrue, Ok, OnOk, Some, slice_get};
 ghost use Rattle.mx_desk.specs.Desks.{HasRoom};
+ghost use Rattle.mx_request.specs.Request.{RequestValue};
 ghost use Rattle.mx_request.specs.RequestError.{refusal_code};
 ghost use Rattle.mx_request.specs.declared.error.RequestError.TheVariants as refusal;
 ghost use Rattle.mx_get_text.specs.declared.fetched.Fetched.TheVariants as fetched;
-ghost use Rattle.mx_run_get.specs.Getting.{AreAwaited, HasLeft, IsGetting, IsSameGetting, asked_next};
+ghost use Rattle.mx_run_get.specs.Getting.{AreAwaited, HasLeft, HasTakenAll, IsGetting, IsSameGetting, asked_next};
 ghost use Rattle.mx_run_get.specs.Places.{asked_at, is_awaiting, is_awaiting_at, noted_at};
 ghost use Rattle.mx_run_get.specs.declared.place.Place.{Place as AtPlace};
-ghost use Rattle.mx_run_io.specs.declared.stop.Stop.TheVariants as stop;
 
 use crate::end::UrlEnd;
-use crate::place::{Place, ended_at};
+use crate::place::{Place, ended_at, take_at};
+use crate::taker::TakeEnds;
 use mx_crew::Crew;
-use mx_desk::{Desk, Ended};
+use mx_desk::{Adding, Desk, Ended};
 use mx_fetch::{Fetch, Turned};
 use mx_get_text::build_get;
 use mx_link::Link;
 use mx_request::{Request, RequestError};
 use mx_run_io::{Options, Stop};
 use mx_sink::Held;
-use std::alloc::{AllocGlobal, Global};
+use std::alloc::{AllocFailed, AllocGlobal, Global};
 use std::marker::Model;
 use std::rt::Clock;
 use std::snapshot::Snapshot;
@@ -40,57 +41,76 @@ fn refused(error: RequestError) -> Result<UrlEnd, Stop>
     }
 }
 
-/// The URLs of a run, how they are fetched, and a place for each that was added or refused, in their order: the number of its place is the
-/// number of its addition.
+/// The URLs of a run, how they are fetched, a place for each that was added or refused, in their order, and what takes their ends: the number
+/// of a place is the number of its addition.
 #[derive(Drop)]
-pub struct Getting<'u> {
+pub struct Getting<'u, T: TakeEnds + Drop> {
     urls: &'u [&'u str],
     options: Options,
     places: Vec<Place>,
+    taker: T,
 }
 
-impl<'u> Model for Getting<'u> {
+impl<'u, T: TakeEnds + Drop> Model for Getting<'u, T> {
     ghost use Rattle.std.specs.Prelude.{map};
     ghost use Rattle.mx_run_get.specs.Getting.{GettingValue, IsGetting};
 
     ghost Value = { GettingValue };
 
-    ghost view = { λ g. record { urls = map (λ u. u.now) g.urls.now; options = g.options; places = g.places.items } };
+    ghost view = { λ g. record { urls = map (λ u. u.now) g.urls.now; options = g.options; places = g.places.items; taken = T.taken g.taker; begun = T.begun g.taker } };
 
-    ghost invariant = { λ g. IsGetting (record { urls = map (λ u. u.now) g.urls.now; options = g.options; places = g.places.items }) };
+    ghost invariant = { λ g. IsGetting (record { urls = map (λ u. u.now) g.urls.now; options = g.options; places = g.places.items; taken = T.taken g.taker; begun = T.begun g.taker }) };
 }
 
-impl<'u> Getting<'u> {
-    /// No URL is added yet. It is in a box, since it is moved through many frames of the stack.
+impl<'u, T: TakeEnds + Drop> Getting<'u, T> {
+    /// No URL is added yet, and no end is taken. It is in a box, since it is moved through many frames of the stack. Where memory is refused
+    /// what takes the ends comes back.
     pub fn boxed(
         alloc: Global,
         urls: &'u [&'u str],
         options: Options,
-    ) -> Result<Box<Getting<'u>>, Stop>
-        ensures new { IfOk result (λ g. (g.value.urls ≡ map (λ u. u.now) urls.now) × (g.value.options ≡ options) × (g.value.places ≡ [])) }
-        ensures why { IfErr result (λ e. e ≡ stop.OutOfMemory) }
+        taker: T,
+    ) -> Result<Box<Getting<'u, T>>, T>
+        requires { T.taken taker ≡ [] }
+        ensures new { IfOk result (λ g. (g.value.urls ≡ map (λ u. u.now) urls.now) × (g.value.options ≡ options) × (g.value.places ≡ []) × (g.value.begun ≡ T.begun taker)) }
+        ensures back { IfErr result (λ back. (T.taken back ≡ []) × (T.begun back ≡ T.begun taker)) }
     {
-        let places = Vec::with_capacity(alloc, urls.len())?;
+        let Ok(places) = Vec::with_capacity(alloc, urls.len()) else {
+            return Err(taker);
+        };
         let getting = Getting {
             urls,
             options,
             places,
+            taker,
         };
-        Ok(Box::new(alloc, getting)?)
+        match Box::new(alloc, getting) {
+            Ok(getting) => Ok(getting),
+            Err(AllocFailed { value }) => Err(value.into_taker()),
+        }
     }
 
-    /// What is at the places.
-    pub fn into_places(self) -> Vec<Place>
-        ensures places { result.items ≡ self.entry.places }
+    /// What took the ends.
+    pub fn into_taker(self) -> T
+        ensures taken { T.taken result ≡ self.entry.taken }
+        ensures begun { T.begun result ≡ self.entry.begun }
         ensures asked { IsGetting self.entry }
     {
-        self.places
+        let Getting {
+            urls: _,
+            options: _,
+            places,
+            taker,
+        } = self;
+        drop(places);
+        taker
     }
 
     // Whether a URL is left to add.
     fn has_more(&self) -> bool
         ensures more { IsTrue result → length self.now.places < length self.now.urls }
         ensures all { result ≡ false → length self.now.places ≡ length self.now.urls }
+        ensures is { IsGetting self.now }
     {
         self.places.len() < self.urls.len()
     }
@@ -117,11 +137,22 @@ impl<'u> Getting<'u> {
         ensures same { IsSameGetting self.old self.new }
     {
         let asked = Snapshot::of(&request);
-        let Some(_) = desk.add(rt, self.places.as_slice().len(), request, Held)? else {
-            return Ok(());
-        };
-        self.places.push(Place::Awaited(asked))?;
-        Ok(())
+        match desk.add(rt, self.places.as_slice().len(), request, Held) {
+            Adding::Made(_) => {
+                self.places.push(Place::Awaited(asked))?;
+                Ok(())
+            }
+            Adding::Refused(request, _) => {
+                drop(request);
+                drop(asked);
+                Ok(())
+            }
+            Adding::OutOfMemory(request, _) => {
+                drop(request);
+                drop(asked);
+                Err(Stop::OutOfMemory)
+            }
+        }
     }
 
     // Adds the transfer of the next URL, or notes at its place why it is refused.
@@ -182,9 +213,46 @@ impl<'u> Getting<'u> {
         }
     }
 
+    // rule get-at-once
+    // Gives on the next end, if it is known. The answer is whether it is.
+    fn give_one(&mut self) -> Result<bool, Stop>
+        ensures given { IfOk result (λ given. given ≡ true → (length self.new.taken ≡ length self.old.taken + 1) × (length self.new.taken ≤ length self.new.places)) }
+        ensures all { IfOk result (λ given. given ≡ false → HasTakenAll self.new) }
+        ensures places { length self.new.places ≡ length self.old.places }
+        ensures awaited { (asked : List (Option RequestValue)) → AreAwaited self.old.places asked → AreAwaited self.new.places asked }
+        ensures same { IsSameGetting self.old self.new }
+    {
+        let at = self.taker.count();
+        let Some(end) = take_at(&mut self.places, at)? else {
+            return Ok(false);
+        };
+        // proof: what holds of an end
+        end.know();
+        self.taker.take(end)?;
+        Ok(true)
+    }
+
+    // rule get-at-once
+    // Gives on all ends that are known before the first one that isn't, and has a reader see them.
+    fn give_known(&mut self) -> Result<(), Stop>
+        ensures all { OnOk result (HasTakenAll self.new) }
+        ensures awaited { (asked : List (Option RequestValue)) → AreAwaited self.old.places asked → AreAwaited self.new.places asked }
+        ensures same { IsSameGetting self.old self.new }
+    {
+        let mut is_any = false;
+        while self.give_one()? {
+            is_any = true;
+        }
+        if is_any {
+            self.taker.flush()?;
+        }
+        Ok(())
+    }
+
     // How the run leaves its desk, where nothing is added there.
     fn left<L: Link>(&self, desk: &Desk<'_, '_, L>) -> Option<Turned>
         requires all { AreAwaited self.now.places desk.now.asked }
+        requires taken { HasTakenAll self.now }
         ensures { IfSome result (HasLeft self.now) }
     {
         if !desk.is_empty() {
@@ -197,8 +265,8 @@ impl<'u> Getting<'u> {
     }
 
     // rule get-width
-    // Adds the URLs, each once there is room for it, and waits for all messages. The workers are woken before a message is awaited, where
-    // something was added since.
+    // Adds the URLs, each once there is room for it, waits for all messages, and gives on each end once all before it are given on. The workers
+    // are woken before a message is awaited, where something was added since.
     fn take_turns<L: Link, R: Wait + AllocGlobal + Clock>(
         &mut self,
         rt: &R,
@@ -212,6 +280,7 @@ impl<'u> Getting<'u> {
     {
         let mut added = 0usize;
         for _ in rt.forever() {
+            self.give_known()?;
             if self.may_add(desk) {
                 self.add(rt, desk)?;
                 added = added.saturating_add(1);
@@ -230,7 +299,7 @@ impl<'u> Getting<'u> {
     }
 }
 
-impl<'u> Fetch<Held> for Getting<'u> {
+impl<'u, T: TakeEnds + Drop> Fetch<Held> for Getting<'u, T> {
     ghost is_asked = { λ g asked. AreAwaited g.places asked };
 
     ghost has_turned = { λ g how. HasLeft g how };
@@ -247,9 +316,9 @@ impl<'u> Fetch<Held> for Getting<'u> {
         self.take_turns(rt, crew, desk)
     }
 
-    ghost same = { λ g. (refl, refl) };
+    ghost same = { λ g. (refl, refl, refl) };
 
-    ghost then = { λ f g h k l. (l.0 ∙ k.0, l.1 ∙ k.1) };
+    ghost then = { λ f g h k l. (l.0 ∙ k.0, l.1 ∙ k.1, l.2 ∙ k.2) };
 
     ghost none = { λ g left asked. left asked };
 }

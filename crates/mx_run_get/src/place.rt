@@ -1,16 +1,14 @@
 //! The places of URLs, and the ends that are known there.
-ghost use Rattle.std.specs.Prelude.{◌≡◌, ◌<◌, true, false, map, count_by, slice_set, vec_len, IfOk, IfErr, All};
-ghost use Rattle.mx_run_get.specs.Asked.{asked_of, IsEnd};
-ghost use Rattle.mx_run_get.specs.Places.{asked_at, is_awaiting, is_awaiting_at, noted_at};
+ghost use Rattle.std.specs.Prelude.{◌≡◌, ◌<◌, true, false, Some, slice_get, slice_set, vec_len, IfOk, IfNone, IfSome, IsErr};
+ghost use Rattle.mx_run_get.specs.Places.{IsAwaitedAt, TakesAt, is_awaiting_at, noted_at};
 ghost use Rattle.mx_run_get.specs.declared.place.Place.TheVariants as place;
-ghost use Rattle.mx_run_io.specs.declared.stop.Stop.TheVariants as stop;
 
 use crate::end::UrlEnd;
-use mx_get_text::Fetched;
 use mx_request::Request;
 use mx_run_io::Stop;
 use mx_transfer::Outcome;
 use std::alloc::Global;
+use std::mem;
 use std::snapshot::Snapshot;
 
 /// What is at the place of a URL.
@@ -18,8 +16,10 @@ use std::snapshot::Snapshot;
 pub enum Place {
     /// The end of its transfer is awaited. Contracts see the request.
     Awaited(Snapshot<Request>),
-    /// What the URL ended with.
+    /// What the URL ended with, which isn't taken yet.
     Known(UrlEnd),
+    /// What it ended with was taken. Contracts see it.
+    Taken(Snapshot<UrlEnd>),
 }
 
 // Whether an end is awaited at that place.
@@ -54,22 +54,31 @@ pub fn ended_at(alloc: Global, places: &mut Vec<Place>, at: usize, outcome: Outc
     false
 }
 
-/// The ends, which are all known. `OutOfMemory` is the only error.
-#[tactic(auto, using(crate::proofs::Places::ends_reversed))]
-pub fn ends_at(alloc: Global, places: Vec<Place>) -> Result<Vec<Fetched>, Stop>
-    requires known { count_by is_awaiting places.items ≡ 0 }
-    ensures asked { IfOk result (λ ends. map asked_of ends.items ≡ map asked_at places.items) }
-    ensures outcomes { IfOk result (λ ends. All IsEnd ends.items) }
-    ensures why { IfErr result (λ e. e ≡ stop.OutOfMemory) }
+// The end that is known at that place, for contracts alone, if it is: `None` where it is awaited, and where there is no place, and
+// `NoMessage` where it was taken.
+fn known_at(places: &[Place], at: usize) -> Result<Option<Snapshot<UrlEnd>>, Stop>
+    ensures known { IfOk result (λ seen. IfSome seen (λ end. slice_get places.now at ≡ Some (place.Known end.value))) }
+    ensures awaited { IfOk result (λ seen. IfNone seen (IsAwaitedAt places.now at)) }
 {
-    let mut places = places;
-    let mut ends = Vec::with_capacity(alloc, places.len())?;
-    while let Some(place) = places.pop() {
-        let Place::Known(end) = place else {
-            unreachable!();
-        };
-        ends.push(end.into_fetched())?;
+    match places.get(at) {
+        Some(Place::Known(end)) => Ok(Some(Snapshot::of(end))),
+        Some(Place::Taken(_)) => Err(Stop::NoMessage),
+        _ => Ok(None),
     }
-    ends.reverse();
-    Ok(ends)
+}
+
+/// Takes the end that is known at that place, if it is: `None` where it is awaited, and where there is no place. `NoMessage`, where it was
+/// taken before, is the only error.
+pub fn take_at(places: &mut Vec<Place>, at: usize) -> Result<Option<UrlEnd>, Stop>
+    ensures taken { IfOk result (λ end. IfSome end (λ e. TakesAt places.old.items at e places.new.items)) }
+    ensures awaited { IfOk result (λ end. IfNone end (IsAwaitedAt places.old.items at × (places.new.items ≡ places.old.items))) }
+    ensures stays { IsErr result → places.new.items ≡ places.old.items }
+{
+    let Some(seen) = known_at(places.as_slice(), at)? else {
+        return Ok(None);
+    };
+    let Place::Known(end) = mem::replace(&mut places[at], Place::Taken(seen)) else {
+        unreachable!();
+    };
+    Ok(Some(end))
 }

@@ -1,5 +1,5 @@
 -- Bytes that are written one after another, as far as it is known what a writer holds.
-use Rattle.std.proofs.Common.{◌≡◌, ◌∙◌, sym, ap, List, ℕ, [], ◌++◌, append-nil, append_assoc}
+use Rattle.std.proofs.Common.{◌∙◌, sym, ap, List, ℕ, [], ◌++◌, append-nil, append_assoc}
 use Rattle.std.specs.Prelude.{Option, Some, None}
 use Rattle.std.specs.Io.KnownBytes.{Appends, Keeps}
 

@@ -1,5 +1,5 @@
 -- What is known of a body that was written as it came.
-use Rattle.std.specs.Prelude.{◌≡◌, ◌⊎◌, ℕ, Bool, true, false, List, ◌++◌, Option, Some, IsSome, slice_get}
+use Rattle.std.specs.Prelude.{◌≡◌, ◌≢◌, ◌⊎◌, ℕ, Bool, true, false, List, [], ◌++◌, Option, Some, IsSome, slice_get}
 use Rattle.mx_types.specs.declared.code.Code.{Code}
 use Rattle.mx_types.specs.declared.code.Code.TheVariants as code
 use Rattle.mx_request.specs.Request.{RequestValue}
@@ -22,15 +22,16 @@ IsTrue contents s = has_failed_write s.output ≡ false → Wrote contents s.beg
 
 -- rule get-body: `get --body` writes a prefix of the content of the last response, and all of it where it ends with code 0.
 --
--- The transfer of this request ended so. The code is its own, or says that content couldn't be written. What the sink got is a prefix of what
--- was handed on of the content of the last response. With code 0 that response is whole by RFC 9112, the sink got all of its content, no write
--- failed, and nothing is pending.
+-- The transfer of this request ended so. What the sink got is a prefix of what was handed on of the content of the last response. The code is
+-- that of the transfer; or, where that is 0 and a write failed or some of the content is left, it says that content couldn't be written. With
+-- code 0 that response is whole by RFC 9112, the sink got all of its content, no write failed, and nothing is pending.
 pub record IsWritten {W : Type 0} (contents : W → Option (List ℕ)) (request : RequestValue) (outcome : OutcomeValue) (c : Code) (sink : WriterSinkValue W) : Type 0 where
   pub end : IsEnd outcome
   pub request_is : outcome.request ≡ request
-  pub code_is : (c ≡ outcome.code) ⊎ (c ≡ code.WriteError)
   pub rest : List ℕ
   pub prefix : outcome.content ≡ sink.got ++ rest
+  pub code_is : (c ≡ outcome.code)
+      ⊎ ((c ≡ code.WriteError) × (outcome.code ≡ code.Ok) × ((has_failed_write sink.output ≡ true) ⊎ (rest ≢ [])))
   pub whole : c ≡ code.Ok → HasBody outcome.last × (outcome.last.content ≡ sink.got)
   pub flushed : c ≡ code.Ok → (has_failed_write sink.output ≡ false) × (is_pending sink.output ≡ false)
   pub wrote : IsTrue contents sink

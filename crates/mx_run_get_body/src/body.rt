@@ -1,8 +1,9 @@
 //! The body of one request, written as it comes.
-ghost use Rattle.std.specs.Prelude.{◌≡◌, ◌⊎◌, [], true, ◌++◌, length, IfOk};
+ghost use Rattle.std.specs.Prelude.{◌≡◌, ◌⊎◌, ◌↔◌, [], true, false, ◌++◌, length, IfOk, IsTrue};
 ghost use Rattle.mx_types.specs.declared.code.Code.TheVariants as one;
 ghost use Rattle.mx_multi.specs.Opening.{are_within as are_limits_within};
 ghost use Rattle.mx_run_io.specs.Options.{are_within};
+ghost use Rattle.mx_get_text.specs.Failures.{IsFlowingWhy};
 ghost use Rattle.mx_run_get_body.specs.Bodies.{IsWritten};
 ghost use Rattle.mx_sink.specs.Outlets.{handed_of};
 
@@ -10,7 +11,9 @@ use crate::fetching::Fetching;
 use crate::writer_sink::WriterSink;
 use mx_crew::Runtime;
 use mx_fetch::{FetchEnd, Room, fetch_over_sockets};
+use mx_get_text::flowing_why_of;
 use mx_multi::Limits;
+use mx_reason::Reason;
 use mx_request::Request;
 use mx_run_io::{Options, Stop};
 use mx_sink::{Delivery, Outlet};
@@ -30,6 +33,8 @@ const HISTORY: u32 = 16;
 pub struct BodyEnd<W: Write + Drop> {
     /// The code of the transfer, or `WriteError` where the body couldn't be written.
     pub code: Code,
+    /// Why the transfer failed, as far as the bytes that came show.
+    pub reason: Option<Reason>,
     pub sink: WriterSink<W>,
     /// What the transfer ended with, for contracts alone.
     pub outcome: Snapshot<Outcome<Outlet<WriterSink<W>>>>,
@@ -71,14 +76,14 @@ fn write_rest<W: Write + Drop>(
 
 // Whether there is neither.
 fn are_empty(left: &[u8], rest: &[u8]) -> bool
-    ensures { result ≡ true → (length left.now ≡ 0) × (length rest.now ≡ 0) }
+    ensures { IsTrue result ↔ (length left.now ≡ 0) × (length rest.now ≡ 0) }
 {
     left.is_empty() && rest.is_empty()
 }
 
 // The code of a transfer of which all content was written and flushed, or not.
 fn told_by(code: Code, is_all: bool) -> Code
-    ensures is { (result ≡ code) ⊎ (result ≡ one.WriteError) }
+    ensures is { (result ≡ code) ⊎ ((result ≡ one.WriteError) × (code ≡ one.Ok) × (is_all ≡ false)) }
     ensures all { result ≡ one.Ok → is_all ≡ true }
 {
     if code == Code::Ok && !is_all {
@@ -89,12 +94,14 @@ fn told_by(code: Code, is_all: bool) -> Code
 
 // How the transfer ended, where all that could be written is.
 fn settle<W: Write + Drop>(outcome: Outcome<Outlet<WriterSink<W>>>) -> BodyEnd<W>
-    ensures { IsWritten W.contents outcome.request result.outcome.value result.code result.sink }
+    ensures written { IsWritten W.contents outcome.request result.outcome.value result.code result.sink }
+    ensures reason { IsFlowingWhy result.outcome.value result.reason }
 {
     // proof: what holds of an outcome
     outcome.know_end();
     let about = Snapshot::of(&outcome);
     let code = outcome.code();
+    let reason = flowing_why_of(&outcome);
     let (outlet, rest) = outcome.into_delivery();
     let (mut sink, left, rest) = write_rest(outlet, rest);
     let is_flushed = sink.flush().is_ok();
@@ -107,6 +114,7 @@ fn settle<W: Write + Drop>(outcome: Outcome<Outlet<WriterSink<W>>>) -> BodyEnd<W
     drop(rest);
     BodyEnd {
         code: told,
+        reason,
         sink,
         outcome: about,
     }
@@ -116,7 +124,8 @@ fn settle<W: Write + Drop>(outcome: Outcome<Outlet<WriterSink<W>>>) -> BodyEnd<W
 fn end_of<W: Write + Drop>(
     end: FetchEnd<Fetching<Outlet<WriterSink<W>>>>,
 ) -> Result<BodyEnd<W>, Stop>
-    ensures { IfOk result (λ e. IsWritten W.contents end.errand.value.request e.outcome.value e.code e.sink) }
+    ensures written { IfOk result (λ e. IsWritten W.contents end.errand.value.request e.outcome.value e.code e.sink) }
+    ensures reason { IfOk result (λ e. IsFlowingWhy e.outcome.value e.reason) }
 {
     let FetchEnd {
         errand,
@@ -135,6 +144,7 @@ fn end_of<W: Write + Drop>(
 }
 
 // rule get-body
+// rule get-body-failures
 /// Sends the request, follows redirects as its settings say, and writes the body of the last response to the sink as it comes. It may wait.
 ///
 /// What the sink got is a prefix of the content of that response, and with `Code::Ok` all of it, flushed: then that response is whole by
@@ -146,7 +156,8 @@ pub fn fetch_body<
 >(rt: &R, request: Request, options: Options, sink: WriterSink<W>) -> Result<BodyEnd<W>, Stop>
     requires within { are_within options ≡ true }
     requires none { sink.got ≡ [] }
-    ensures { IfOk result (λ e. IsWritten W.contents request e.outcome.value e.code e.sink) }
+    ensures written { IfOk result (λ e. IsWritten W.contents request e.outcome.value e.code e.sink) }
+    ensures reason { IfOk result (λ e. IsFlowingWhy e.outcome.value e.reason) }
 {
     let Ok(start) = Instant::now(rt) else {
         return Err(Stop::NoClock);

@@ -4,7 +4,7 @@ ghost use Rattle.std.specs.Prelude.{◌≡◌, [], false, true, None, IfOk, IfSo
 ghost use Rattle.mx_run_get_body.specs.Bodies.{HasTurned, IsAwaited};
 
 use mx_crew::Crew;
-use mx_desk::{Desk, Ended};
+use mx_desk::{Adding, Desk, Ended};
 use mx_fetch::{Fetch, Turned};
 use mx_link::Link;
 use mx_request::Request;
@@ -91,11 +91,20 @@ impl<D: Delivery> Fetching<D> {
             drop(delivery);
             return Err(Stop::NoMessage);
         }
-        let Some(_) = desk.add(rt, 0, request, delivery)? else {
-            return Err(Stop::NoMessage);
-        };
-        self.is_awaited = true;
-        Ok(true)
+        match desk.add(rt, 0, request, delivery) {
+            Adding::Made(_) => {
+                self.is_awaited = true;
+                Ok(true)
+            }
+            Adding::Refused(request, delivery) => {
+                self.next = Some((request, delivery));
+                Err(Stop::NoMessage)
+            }
+            Adding::OutOfMemory(request, delivery) => {
+                self.next = Some((request, delivery));
+                Err(Stop::OutOfMemory)
+            }
+        }
     }
 
     // Waits for the next message. The answer is whether the transfer has ended.

@@ -5,7 +5,7 @@ ghost use Rattle.mx_run_io.specs.Options.{are_within};
 use crate::body::fetch_body;
 use crate::writer_sink::WriterSink;
 use mx_crew::Runtime;
-use mx_failure_text::{code_words, print_cause, print_failure};
+use mx_failure_text::{FailureReport, print_cause, print_failure};
 use mx_get_text::build_get;
 use mx_run_io::{Options, Output, Stop};
 use mx_types::{Code, OUT_OF_MEMORY};
@@ -14,12 +14,12 @@ use std::io::Write;
 use std::net::{Net, TcpListener, TcpStream};
 
 // Reports how a URL failed, if it did. The answer is the exit status.
-fn report<E: Write>(stderr: &mut Output<E>, url: &str, code: Code) -> u8 {
-    if code != Code::Ok {
+fn report<E: Write>(stderr: &mut Output<E>, url: &str, told: FailureReport) -> u8 {
+    if told.code != Code::Ok {
         // What can't be reported is left out.
-        let _told = print_failure(stderr, url.as_bytes(), code_words(code), code);
+        let _told = print_failure(stderr, url.as_bytes(), told, told.code);
     }
-    code.number() as u8
+    told.code.number() as u8
 }
 
 // Why nothing was fetched, in words.
@@ -54,14 +54,17 @@ pub fn run_get_body<
         Ok(request) => request,
         Err(error) => {
             drop(stdout);
-            return report(stderr, url, error.code());
+            return report(stderr, url, FailureReport::by_code(error.code()));
         }
     };
     match fetch_body(rt, request, options, WriterSink::new(Output::new(stdout))) {
         Ok(end) => {
-            let code = end.code;
+            let told = FailureReport {
+                code: end.code,
+                reason: end.reason,
+            };
             drop(end);
-            report(stderr, url, code)
+            report(stderr, url, told)
         }
         Err(stop) => report_stop(stderr, stop),
     }

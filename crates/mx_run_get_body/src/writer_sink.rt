@@ -1,5 +1,5 @@
 //! A sink that writes to a writer.
-ghost use Rattle.std.specs.Prelude.{◌≡◌, true, false, [], ◌++◌, OnOk};
+ghost use Rattle.std.specs.Prelude.{◌≡◌, true, false, [], ◌++◌, OnOk, OnErr};
 ghost use Rattle.mx_run_io.specs.Ends.{has_failed_write, is_pending};
 ghost use Rattle.mx_run_get_body.specs.Bodies.{IsTrue};
 
@@ -62,6 +62,7 @@ impl<W: Write + Drop> WriterSink<W> {
     /// Flushes the output. An error is that of an earlier write, too.
     pub fn flush(&mut self) -> Result<(), WriteFailed>
         ensures flushed { OnOk result ((has_failed_write self.new.output ≡ false) × (is_pending self.new.output ≡ false)) }
+        ensures failed { OnErr result (has_failed_write self.new.output ≡ true) }
         ensures same { (self.new.begun ≡ self.old.begun) × (self.new.got ≡ self.old.got) }
     {
         self.output.flush()

@@ -3,17 +3,18 @@ ghost use Rattle.std.specs.Prelude.{◌≡◌, true, nat_eq, IfSome, map, string
 ghost use Rattle.std.specs.List.{starts_with};
 ghost use Rattle.mx_command.specs.Said.{IsNamedAt};
 
+use crate::save::GREATEST_LIMIT;
 use mx_types::{LEAST_HISTORY, MOST_HISTORY};
 
 /// An option that takes a number from the least to the greatest, and the text that says so.
 pub struct NumberRow {
     pub name: &'static str,
-    pub least: u32,
-    pub most: u32,
+    pub least: u64,
+    pub most: u64,
     pub wanted: &'static str,
 }
 
-static NUMBERS: [NumberRow; 8] = [
+static NUMBERS: [NumberRow; 9] = [
     NumberRow {
         name: "--workers",
         least: 1,
@@ -29,7 +30,7 @@ static NUMBERS: [NumberRow; 8] = [
     NumberRow {
         name: "--timeout-ms",
         least: 0,
-        most: u32::MAX,
+        most: u32::MAX as u64,
         wanted: "milliseconds, as 5000",
     },
     NumberRow {
@@ -45,6 +46,12 @@ static NUMBERS: [NumberRow; 8] = [
         wanted: "a number of redirects, 0 to 255, as 10",
     },
     NumberRow {
+        name: "--max-filesize",
+        least: 1,
+        most: GREATEST_LIMIT,
+        wanted: "a number of bytes, 1 to 9223372036854775807, as 1048576",
+    },
+    NumberRow {
         name: "--retry",
         least: 0,
         most: 255,
@@ -52,14 +59,14 @@ static NUMBERS: [NumberRow; 8] = [
     },
     NumberRow {
         name: "--history",
-        least: LEAST_HISTORY,
-        most: MOST_HISTORY,
+        least: LEAST_HISTORY as u64,
+        most: MOST_HISTORY as u64,
         wanted: "a number of events, 4 to 1048576, as 65536",
     },
     NumberRow {
         name: "--first-ticket",
         least: 0,
-        most: u32::MAX,
+        most: u32::MAX as u64,
         wanted: "a ticket, 0 to 4294967295, as 0",
     },
 ];
@@ -78,7 +85,7 @@ fn row_of(word: &str) -> Option<&'static NumberRow>
 
 // Whether the text is a number that the option takes.
 fn is_taken(row: &NumberRow, text: &str) -> bool {
-    match text.parse::<u32>() {
+    match text.parse::<u64>() {
         Ok(number) => row.least <= number && number <= row.most,
         Err(_) => false,
     }

@@ -5,7 +5,7 @@ use clap::{Arg, ArgAction, Command};
 use mx_types::{LEAST_HISTORY, MOST_HISTORY};
 use std::alloc::{AllocError, Global};
 
-static OPTIONS: [OptionRow; 18] = [
+static OPTIONS: [OptionRow; 19] = [
     OptionRow {
         name: "input",
         takes: Takes::Word("FILE"),
@@ -47,6 +47,12 @@ static OPTIONS: [OptionRow; 18] = [
         takes: Takes::Number(0, 255),
         default: Some("10"),
         help: "Redirects that are followed: 0 to 255",
+    },
+    OptionRow {
+        name: "max-filesize",
+        takes: Takes::Bytes,
+        default: None,
+        help: "Bytes a body may have; a longer one fails with 63",
     },
     OptionRow {
         name: "retry",

@@ -3,16 +3,27 @@ ghost use Rattle.std.specs.Prelude.{◌≡◌, IfOk, IfSome, codes, is_some, map
 ghost use Rattle.clap.specs.Words.{found_of, matched_of, one_text};
 ghost use Rattle.mx_command.specs.Given.{AreFlagsOf, AreNumbersOf, IsProgressOf, default_method, progress_by};
 ghost use Rattle.mx_command.specs.Given.{AreHeadersBy, IsBodyBy, IsBodyOf, IsHeaderBy, IsInputOf, IsMethodBy, IsSaveGiven, IsSaveOf, IsSourceOf};
-ghost use Rattle.mx_command.specs.Given.{texts_of as given_texts};
+ghost use Rattle.mx_command.specs.Given.{number_of, texts_of as given_texts};
 ghost use Rattle.mx_command.specs.Saving.{AreSaveNumbers, IsSaveAsked};
 
-use crate::given::{byte_of, flag_of, options_of, texts_of, word_of};
+use crate::given::{byte_of, flag_of, long_of, options_of, texts_of, word_of};
 use crate::save::options::save_command;
 use crate::save::{BodySource, Header, ListSource, Save, SaveFlags, SaveNumbers, help};
 use clap::error::ErrorKind;
 use clap::{ArgMatches, Command, Error};
-use mx_types::{LEAST_HISTORY, MOST_HISTORY, Method};
+use mx_types::Method;
 use std::alloc::{AllocError, Global};
+
+// The limit of the bytes of a body, if one was given. `None` where its value is no number of 64 bits.
+fn limit_of(save: &ArgMatches<'_>) -> Option<Option<u64>>
+    ensures { IfSome result (λ limit. number_of (found_of save.now) (codes "max-filesize") ≡ limit) }
+{
+    if !save.contains_id("max-filesize") {
+        return Some(None);
+    }
+    let limit = long_of(save, "max-filesize")?;
+    Some(Some(limit))
+}
 
 /// The numbers of `save`, if its values are there. Their ranges are tested here too, since clap's contract doesn't say that they were.
 fn numbers_of(save: &ArgMatches<'_>) -> Option<SaveNumbers>
@@ -22,14 +33,17 @@ fn numbers_of(save: &ArgMatches<'_>) -> Option<SaveNumbers>
     let options = options_of(save)?;
     let retries = byte_of(save, "retry")?;
     let history = word_of(save, "history")?;
-    if !options.are_within() || !(LEAST_HISTORY..=MOST_HISTORY).contains(&history) {
-        return None;
-    }
-    Some(SaveNumbers {
+    let most_bytes = limit_of(save)?;
+    let numbers = SaveNumbers {
         options,
         retries,
         history,
-    })
+        most_bytes,
+    };
+    if !numbers.are_within() {
+        return None;
+    }
+    Some(numbers)
 }
 
 // Whether progress is shown, where that is asked for, and where it is forbidden.

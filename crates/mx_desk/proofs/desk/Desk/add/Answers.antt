@@ -7,32 +7,32 @@ use Rattle.mx_desk.specs.Ties.{ties_at, ties_of}
 use Rattle.mx_desk.proofs.Desks.{asked_set, asked_there, desk_adds, desk_on, none_why}
 use Rattle.mx_desk.proofs.desk.Desk.add.Goals as goal
 
-pub invariant_of-self-in-Err : goal.invariant_of-self-in-Err
-invariant_of-self-in-Err g c = desk_on (ties_of c.self.inside.seats) (ties_of c.add_at-added.new.seats) c.self.inside.additions.items c.self.inside.width c.self.inside.waiting c.add_at-added.ensures.later c.self.invariant
+pub invariant_of-self-in-OutOfMemory : goal.invariant_of-self-in-OutOfMemory
+invariant_of-self-in-OutOfMemory g c = desk_on (ties_of c.self.inside.seats) (ties_of c.add_at-added.new.seats) c.self.inside.additions.items c.self.inside.width c.self.inside.waiting c.add_at-added.ensures.later c.self.invariant
 
-pub invariant_of-self-in-Ok-None : goal.invariant_of-self-in-Ok-None
-invariant_of-self-in-Ok-None g c = desk_on (ties_of c.self.inside.seats) (ties_of c.add_at-added.new.seats) c.self.inside.additions.items c.self.inside.width c.self.inside.waiting c.add_at-added.ensures.later c.self.invariant
+pub invariant_of-self-in-Refused : goal.invariant_of-self-in-Refused
+invariant_of-self-in-Refused g c = desk_on (ties_of c.self.inside.seats) (ties_of c.add_at-added.new.seats) c.self.inside.additions.items c.self.inside.width c.self.inside.waiting c.add_at-added.ensures.later c.self.invariant
 
 pub invariant_of-self : goal.invariant_of-self
 invariant_of-self g c =
     let ties = ties_of c.add_at-added.new.seats in
     let items = c.self.inside.additions.items in
-    let addition = c.in-Ok-Some.addition in
-    let empty = subst (λ o. IfSome o (λ _. slice_get c.as_slice.result.now c.args.at ≡ Some None)) c.in-Ok-Some.field-0-is c.in-Ok-Some.ensures.free in
+    let addition = c.in-Made.addition in
+    let empty = c.in-Made.ensures.free in
     let free = subst (λ l. slice_get l c.args.at ≡ Some None) c.as_slice.ensures.value empty in
-    let told = subst (λ o. IfSome o (λ a. IsTold (ties_at ties a.beside) a)) c.in-Ok-Some.field-0-is c.in-Ok-Some.ensures.told in
+    let told = c.in-Made.ensures.told in
     let room = subst (λ d. HasRoom d) (sym c.self.view_is) c.requires.room in
     subst (λ l. IsDesk ties l c.self.inside.width (c.self.inside.waiting + 1)) (sym c.put.ensures)
     (desk_adds ties items c.self.inside.width c.self.inside.waiting c.args.at addition free told room
     (desk_on (ties_of c.self.inside.seats) ties items c.self.inside.width c.self.inside.waiting c.add_at-added.ensures.later c.self.invariant))
 
-pub returns-in-Ok-Some-clause-added : goal.returns-in-Ok-Some-clause-added
-returns-in-Ok-Some-clause-added g c =
+pub returns-in-Made-clause-added : goal.returns-in-Made-clause-added
+returns-in-Made-clause-added g c =
     let items = c.self.inside.additions.items in
-    let addition = c.in-Ok-Some.addition in
-    let empty = subst (λ o. IfSome o (λ _. slice_get c.as_slice.result.now c.args.at ≡ Some None)) c.in-Ok-Some.field-0-is c.in-Ok-Some.ensures.free in
+    let addition = c.in-Made.addition in
+    let empty = c.in-Made.ensures.free in
     let free = subst (λ l. slice_get l c.args.at ≡ Some None) c.as_slice.ensures.value empty in
-    let same = subst (λ o. IfSome o (λ a. a.request ≡ c.args.request)) c.in-Ok-Some.field-0-is c.in-Ok-Some.ensures.request in
+    let same = c.in-Made.ensures.request in
     record {
       free = subst (λ d. slice_get d.asked c.args.at ≡ Some None) c.self.view_is (asked_there items c.args.at None free);
       asked = subst (λ d. map asked_at c.put.new.additions.items ≡ slice_set d.asked c.args.at (Some c.args.request)) c.self.view_is
@@ -40,13 +40,12 @@ returns-in-Ok-Some-clause-added g c =
       width = ap (λ d. d.width) c.self.view_is;
     }
 
-pub returns-in-Ok-None-clause-stands : goal.returns-in-Ok-None-clause-stands
-returns-in-Ok-None-clause-stands g c =
+pub returns-in-Refused-clause-stands : goal.returns-in-Refused-clause-stands
+returns-in-Refused-clause-stands g c =
     let items = c.self.inside.additions.items in
     let new = c.add_at-added.new.seats in
     let at = c.args.at in
-    let why = subst (λ o. IfNone o ((((slice_get c.as_slice.result.now at ≡ Some None → ⊥) ⊎ (2 ^ 32 ≤ at)) × (new ≡ c.self.inside.seats)) ⊎ AtLast (IsRefused (handle_at at)) c.self.inside.seats new))
-    c.in-Ok-None.field-0-is c.in-Ok-None.ensures.none in
+    let why = c.in-Refused.ensures.none in
     record {
       added = ap (λ d. d.added) c.self.view_is;
       why = subst (λ d. (((slice_get d.asked at ≡ Some None → ⊥) ⊎ (2 ^ 32 ≤ at)) × (new ≡ d.seats)) ⊎ AtLast (IsRefused (handle_at at)) d.seats new) c.self.view_is

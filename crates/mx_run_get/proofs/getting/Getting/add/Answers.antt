@@ -11,15 +11,15 @@ add_request-requires-clause-next g c =
     let s = c.self.inside in
     let more = subst (λ (d : GettingValue). length d.places < length d.urls) (sym c.self.view_is) c.requires.more in
     subst (λ (d : GettingValue). asked_next d ≡ Some (Ok c.in-Ok.request)) c.self.view_is
-    (next_is (λ u. u.now) s.urls.now s.options s.places.items (length c.as_slice.result.now) _ (Ok c.in-Ok.request) (ap length c.as_slice.ensures.value) more c.in-Ok.ensures)
+    (next_is (λ u. u.now) s.urls.now s.options s.places.items (g.T.TakeEnds.taken s.taker) (g.T.TakeEnds.begun s.taker) (length c.as_slice.result.now) _ (Ok c.in-Ok.request) (ap length c.as_slice.ensures.value) more c.in-Ok.ensures)
 
 pub invariant_of-self-in-Err : goal.invariant_of-self-in-Err
 invariant_of-self-in-Err g c =
     let s = c.self.inside in
     let more = subst (λ (d : GettingValue). length d.places < length d.urls) (sym c.self.view_is) c.requires.more in
-    let next = next_is (λ u. u.now) s.urls.now s.options s.places.items (length c.as_slice.result.now) _ _ (ap length c.as_slice.ensures.value) more
+    let next = next_is (λ u. u.now) s.urls.now s.options s.places.items (g.T.TakeEnds.taken s.taker) (g.T.TakeEnds.begun s.taker) (length c.as_slice.result.now) _ _ (ap length c.as_slice.ensures.value) more
     (refusal_is _ c.in-Err.error c.in-Err.ensures c.in_ok-end-in-Err.ensures.other) in
-    getting_more _ _ (Known c.in_ok-end-in-Err.end) refl refl c.in_ok-push-in-Err.ensures.items (next ∙ ap (λ e. Some (asked_of e)) (sym c.in_ok-end-in-Err.ensures.end)) c.self.invariant
+    getting_more _ _ (Known c.in_ok-end-in-Err.end) refl refl refl c.in_ok-push-in-Err.ensures.items (next ∙ ap (λ e. Some (asked_of e)) (sym c.in_ok-end-in-Err.ensures.end)) c.self.invariant
 
 pub returns-in_ok-push-in-Err : goal.returns-in_ok-push-in-Err
 returns-in_ok-push-in-Err g c =
@@ -27,5 +27,5 @@ returns-in_ok-push-in-Err g c =
     let all = subst (λ (d : GettingValue). AreAwaited d.places asked) (sym c.self.view_is) c.requires.all in
     record {
       all = known_more c.self.inside.places.items c.push.new.self.items asked (Known c.in_ok-end-in-Err.end) c.in_ok-push-in-Err.ensures.items refl all;
-      same = (ap (λ d. d.urls) c.self.view_is, ap (λ d. d.options) c.self.view_is);
+      same = (ap (λ d. d.urls) c.self.view_is, ap (λ d. d.options) c.self.view_is, ap (λ d. d.begun) c.self.view_is);
     }
