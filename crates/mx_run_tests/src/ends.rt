@@ -43,7 +43,7 @@ const NOTHING: Transferred = Transferred {
 };
 
 // rule save-lines
-static ENDS: [Row; 6] = [
+static ENDS: [Row; 7] = [
     Row {
         name: "saved",
         url: b"http://example.com/",
@@ -73,6 +73,21 @@ static ENDS: [Row; 6] = [
         line: b"saved 0 200 4294967295 - http://a/-\n",
         front: b"{\"url\":\"http://a/-\",\"verdict\":\"saved\",\"code\":0,\"status\":200,\"length\":4294967295",
         back: b",\"file\":\"-\",\"hops\":11,\"tries\":256,\"framing\":\"close\",\"error\":null}\n",
+    },
+    Row {
+        name: "saved, of the greatest length",
+        url: b"http://a/x",
+        came: Came::Saved("x"),
+        transferred: Transferred {
+            status: 200,
+            length: u64::MAX,
+            framing: Some(FramingWord::Chunked),
+            hops: 1,
+            tries: 1,
+        },
+        line: b"saved 0 200 18446744073709551615 x http://a/x\n",
+        front: b"{\"url\":\"http://a/x\",\"verdict\":\"saved\",\"code\":0,\"status\":200,\"length\":18446744073709551615",
+        back: b",\"file\":\"x\",\"hops\":1,\"tries\":1,\"framing\":\"chunked\",\"error\":null}\n",
     },
     Row {
         name: "done",

@@ -24,6 +24,13 @@ fn if_so(is_so: bool, text: &'static str) -> &'static str {
     if is_so { text } else { "" }
 }
 
+fn tell_limit(alloc: Global, save: &Save<'_>) -> Result<String, AllocError> {
+    match save.numbers.most_bytes {
+        Some(limit) => format!(in alloc; " max-filesize={limit}"),
+        None => Ok(String::new(alloc)),
+    }
+}
+
 fn tell_flags(text: &mut String, save: &Save<'_>) -> Result<(), AllocError> {
     let flags = save.flags;
     let progress = match flags.progress {
@@ -86,6 +93,8 @@ fn tell_rest(text: &mut String, save: &Save<'_>) -> Result<(), AllocError> {
 
 pub(crate) fn tell_save(alloc: Global, save: &Save<'_>) -> Result<String, AllocError> {
     let mut text = tell_numbers(alloc, save)?;
+    let limit = tell_limit(alloc, save)?;
+    text.push_str(limit.as_str())?;
     tell_rest(&mut text, save)?;
     Ok(text)
 }

@@ -1,8 +1,6 @@
-//! A body of pieces, names, and what is compared.
-ghost use Rattle.std.specs.Prelude.{map};
+//! Bodies of pieces, names, and what is compared.
 
 use mx_file_name::{FileName, file_name};
-use mx_save::Body;
 use mx_types::OutOfMemory;
 use std::alloc::Global;
 use std::test::Fail;
@@ -16,26 +14,14 @@ pub fn none_of(wrong: Result<Option<&'static str>, OutOfMemory>) -> Result<(), F
     }
 }
 
-/// A body of these pieces.
-#[derive(Clone, Copy)]
-pub struct Pieces {
-    pub pieces: &'static [&'static [u8]],
-}
+/// A body, by its pieces.
+pub type Pieces = &'static [&'static [u8]];
 
-impl Body for Pieces {
-    ghost parts = { λ p. map (λ piece. piece.now) p.pieces.now };
+/// Its pieces are gathered: there are no more writes than the bytes need.
+pub const HELLO: Pieces = &[b"h", b"e", b"l", b"l", b"o", b" ", b"", b"you"];
 
-    fn part_count(&self) -> usize {
-        self.pieces.len()
-    }
-
-    fn part(&self, i: usize) -> Option<&[u8]> {
-        match self.pieces.get(i) {
-            Some(piece) => Some(piece),
-            None => None,
-        }
-    }
-}
+/// It has one piece.
+pub const BYE: Pieces = &[b"bye"];
 
 /// The name of a file that this URL gives.
 pub fn name_of(alloc: Global, url: &str) -> Result<FileName, OutOfMemory> {
@@ -53,4 +39,15 @@ pub fn is_same(bytes: &[u8], wanted: &[u8]) -> bool {
         }
     }
     true
+}
+
+/// Whether this line was printed.
+pub fn was_printed(printed: &[u8], line: &[u8]) -> bool {
+    for at in 0..printed.len() {
+        let rest = &printed[at..];
+        if rest.len() >= line.len() && is_same(&rest[..line.len()], line) {
+            return true;
+        }
+    }
+    false
 }

@@ -147,11 +147,12 @@ fn run<R: Runtime + Net<Listener = TcpListener, Stream = TcpStream>>(
             rt,
             urls,
             options,
-            &mut Output::new(&mut printed),
+            Output::new(&mut printed),
             &mut Output::new(&mut told),
         )
+        .status
     } else {
-        run_get(rt, urls, options, &mut Output::new(&mut printed))
+        run_get(rt, urls, options, Output::new(&mut printed)).status
     };
     GetOutput {
         printed,

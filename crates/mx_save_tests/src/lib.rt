@@ -7,9 +7,13 @@ mod bodies;
 #[cfg(test)]
 mod counting_server;
 #[cfg(test)]
+mod early;
+#[cfg(test)]
 mod gets;
 #[cfg(test)]
 mod memory;
+#[cfg(test)]
+mod memory_parts;
 #[cfg(test)]
 mod memory_sinks;
 #[cfg(test)]
@@ -18,6 +22,8 @@ mod names;
 mod open_requests;
 #[cfg(test)]
 mod part_sinks;
+#[cfg(test)]
+mod parts;
 #[cfg(test)]
 mod refused;
 #[cfg(test)]
@@ -30,5 +36,7 @@ mod sink_bodies;
 mod sinks_without_memory;
 #[cfg(test)]
 mod system;
+#[cfg(test)]
+mod three_parts;
 #[cfg(test)]
 mod widths;

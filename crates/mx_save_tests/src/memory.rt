@@ -1,20 +1,14 @@
 //! Saving to a folder in memory.
-ghost use Rattle.std.specs.Prelude.{◌≢◌};
+ghost use Rattle.std.specs.Prelude.{◌<◌, ◌≢◌};
 
-use crate::bodies::{Pieces, is_same, name_of, none_of};
+use crate::bodies::{BYE, HELLO, is_same, name_of, none_of};
+use crate::parts::{save, save_alone};
 use mx_file_name::{FileName, PartName, part_name};
 use mx_folder::{Folder, FolderError, Kind, MemoryFolder};
-use mx_save::{Ledger, PartError, SaveError, Unsaved, save_body};
+use mx_save::{Ledger, SaveError, Unsaved};
 use mx_types::OutOfMemory;
 use std::alloc::{AllocError, Global};
 use std::test::Fail;
-
-// Its pieces are gathered: there are no more writes than the bytes need.
-static HELLO: Pieces = Pieces {
-    pieces: &[b"h", b"e", b"l", b"l", b"o", b" ", b"", b"you"],
-};
-
-static BYE: Pieces = Pieces { pieces: &[b"bye"] };
 
 fn is_wanted(bytes: &[u8], wanted: Option<&[u8]>) -> bool {
     match wanted {
@@ -23,8 +17,8 @@ fn is_wanted(bytes: &[u8], wanted: Option<&[u8]>) -> bool {
     }
 }
 
-// Whether the name holds these bytes, or nothing where there are none.
-fn holds(
+/// Whether the name holds these bytes, or nothing where there are none.
+pub fn holds(
     alloc: Global,
     folder: &MemoryFolder,
     name: &str,
@@ -33,6 +27,24 @@ fn holds(
     match folder.held(alloc, name)? {
         Some(bytes) => Ok(is_wanted(bytes.as_slice(), wanted)),
         None => Ok(wanted.is_none()),
+    }
+}
+
+/// A folder whose writes take so many bytes, and whose call of that number fails, as each later one does where that is said.
+pub fn failing(
+    alloc: Global,
+    most: usize,
+    fails_at: u64,
+    fails_on: bool,
+    error: FolderError,
+) -> MemoryFolder
+    requires { 0 < most }
+{
+    let folder = MemoryFolder::new(alloc, most, fails_at, error);
+    if fails_on {
+        folder.failing_on()
+    } else {
+        folder
     }
 }
 
@@ -86,7 +98,7 @@ static FAULTS: [Fault; 13] = [
     Fault {
         name: "flushed, no call fails",
         flush: true,
-        call: 6,
+        call: 7,
         saved: Ok(()),
     },
     Fault {
@@ -127,11 +139,21 @@ static FAULTS: [Fault; 13] = [
     },
 ];
 
-// Why a body wasn't saved.
-fn reason_of(saved: Result<(), PartError>) -> Result<(), SaveError> {
+// Why a body wasn't saved, and why its part is left, if it is.
+type Refusal = (SaveError, Option<FolderError>);
+
+fn refusal_of(saved: &Result<(), Unsaved>) -> Option<Refusal> {
     match saved {
-        Ok(()) => Ok(()),
-        Err(refused) => Err(refused.error),
+        Ok(()) => None,
+        Err(unsaved) => Some((unsaved.error, unsaved.left)),
+    }
+}
+
+// Whether a save answers that, and no part is left.
+fn is_answered(saved: &Result<(), Unsaved>, wanted: Result<(), SaveError>) -> bool {
+    match wanted {
+        Ok(()) => saved.is_ok(),
+        Err(error) => refusal_of(saved) == Some((error, None)),
     }
 }
 
@@ -154,11 +176,11 @@ fn is_right(
     name: &FileName,
     row: &Fault,
 ) -> Result<bool, OutOfMemory> {
-    let mut folder = MemoryFolder::new(alloc, 4, row.call, FolderError::Full);
-    let saved = save_body(&mut folder, part, name, &HELLO, row.flush, &mut [0; 16]);
+    let folder = MemoryFolder::new(alloc, 4, row.call, FolderError::Full);
+    let (saved, flushed, folder) = save_alone(alloc, folder, name, HELLO, row.flush);
     let left = is_left(alloc, &folder, part, name, saved.is_ok());
     drop(folder);
-    Ok(left? && reason_of(saved) == row.saved)
+    Ok(left? && flushed.is_ok() && is_answered(&saved, row.saved))
 }
 
 // The first save that leaves something else: the answer, no part, and the whole body under its name or nothing.
@@ -177,7 +199,7 @@ fn wrong_of_faults(alloc: Global) -> Result<Option<&'static str>, OutOfMemory> {
 struct Left {
     name: &'static str,
     call: u64,
-    saved: Result<(), PartError>,
+    refusal: Refusal,
     is_left: bool,
 }
 
@@ -186,28 +208,25 @@ static LEFT: [Left; 3] = [
     Left {
         name: "no call is done",
         call: 0,
-        saved: Err(PartError {
-            error: SaveError::Create(FolderError::Denied),
-            left: None,
-        }),
+        refusal: (SaveError::Create(FolderError::Denied), None),
         is_left: false,
     },
     Left {
         name: "the second write fails, and the part can't be removed",
         call: 2,
-        saved: Err(PartError {
-            error: SaveError::Write(FolderError::Denied),
-            left: Some(FolderError::Denied),
-        }),
+        refusal: (
+            SaveError::Write(FolderError::Denied),
+            Some(FolderError::Denied),
+        ),
         is_left: true,
     },
     Left {
         name: "the part can be neither renamed nor removed",
         call: 4,
-        saved: Err(PartError {
-            error: SaveError::Place(FolderError::Denied),
-            left: Some(FolderError::Denied),
-        }),
+        refusal: (
+            SaveError::Place(FolderError::Denied),
+            Some(FolderError::Denied),
+        ),
         is_left: true,
     },
 ];
@@ -219,11 +238,16 @@ fn is_left_so(
     name: &FileName,
     row: &Left,
 ) -> Result<bool, OutOfMemory> {
-    let mut folder = MemoryFolder::new(alloc, 4, row.call, FolderError::Denied).failing_on();
-    let saved = save_body(&mut folder, part, name, &HELLO, false, &mut [0; 16]);
+    let folder = MemoryFolder::new(alloc, 4, row.call, FolderError::Denied).failing_on();
+    let (saved, _, folder) = save_alone(alloc, folder, name, HELLO, false);
     let there = folder.held(alloc, part.as_str());
+    let saved_there = folder.held(alloc, name.as_str());
     drop(folder);
-    Ok(there?.is_some() == row.is_left && saved == row.saved)
+    Ok(
+        there?.is_some() == row.is_left
+            && saved_there?.is_none()
+            && refusal_of(&saved) == Some(row.refusal),
+    )
 }
 
 // The first of these saves that answers or leaves something else.
@@ -337,8 +361,8 @@ fn is_told(
 {
     let folder = MemoryFolder::new(alloc, 4, row.call, FolderError::Full);
     let mut ledger = Ledger::new(alloc, 42, folder, true);
-    let one = ledger.save(first, &HELLO).is_ok();
-    let two = ledger.save(second, &BYE).is_ok();
+    let one = save(alloc, &mut ledger, first, HELLO).is_ok();
+    let two = save(alloc, &mut ledger, second, BYE).is_ok();
     let (folder, flushed) = ledger.finish();
     let left = has_told(alloc, &folder, one, two);
     drop(folder);
@@ -421,8 +445,8 @@ fn save_beside(
     requires { second.now ≢ first.now }
 {
     let mut ledger = Ledger::new(alloc, 42, folder, false);
-    let one = ledger.save(first, &HELLO).is_ok();
-    let two = ledger.save(second, &BYE);
+    let one = save(alloc, &mut ledger, first, HELLO).is_ok();
+    let two = save(alloc, &mut ledger, second, BYE);
     (one, two, ledger.finish().0)
 }
 
@@ -437,8 +461,8 @@ fn is_beside(
     requires { second.now ≢ first.now }
 {
     let last = part_name(alloc, 42, u64::from(row.count.saturating_sub(1)))?;
-    // the first save makes a part, two writes and a name
-    let fails_at = u64::from(row.count) + 5;
+    // the first save makes a part, a write and a name, and the second a part
+    let fails_at = u64::from(row.count) + 4;
     let mut folder = MemoryFolder::new(alloc, 100, fails_at, FolderError::Full).failing_on();
     let added = add_parts(alloc, &mut folder, row.count);
     let (one, two, folder) = save_beside(alloc, first, second, folder);
@@ -476,10 +500,10 @@ fn is_saved(alloc: Global, folder: &MemoryFolder) -> Result<bool, OutOfMemory> {
 fn save_twice(alloc: Global, name: &FileName) -> (bool, bool, MemoryFolder) {
     let folder = MemoryFolder::new(alloc, 4, u64::MAX, FolderError::Full);
     let mut ledger = Ledger::new(alloc, 42, folder, true);
-    let first = ledger.save(name, &HELLO);
+    let first = save(alloc, &mut ledger, name, HELLO);
     let last = match first {
         Ok(()) => Ok(()),
-        Err(_) => ledger.save(name, &HELLO),
+        Err(_) => save(alloc, &mut ledger, name, HELLO),
     };
     (first.is_ok(), last.is_ok(), ledger.finish().0)
 }
@@ -506,7 +530,7 @@ fn kinds(alloc: Global, name: &FileName) -> [Result<Kind, FolderError>; 2] {
     let folder = MemoryFolder::new(alloc, 4, u64::MAX, FolderError::Full);
     let mut ledger = Ledger::new(alloc, 42, folder, false);
     let before = ledger.look(name);
-    let _ = ledger.save(name, &BYE);
+    let _ = save(alloc, &mut ledger, name, BYE);
     let after = ledger.look(name);
     drop(ledger);
     [before, after]

@@ -1,25 +1,14 @@
 //! A run in which a growth of memory may be refused, as `checks/refused-growths.sh` refuses each in turn.
 
-use crate::bodies::is_same;
+use crate::bodies::{is_same, was_printed};
 use crate::runs::{asked, save};
 use crate::server::Server;
 use mx_crew::Runtime;
-use mx_folder::FolderError;
+use mx_folder::{FolderError, MemoryFolder};
 use mx_types::OutOfMemory;
 use std::alloc::{AllocError, Global};
 use std::net::{Net, TcpListener, TcpStream};
 use std::test::Fail;
-
-// Whether this line was printed.
-fn was_printed(printed: &[u8], line: &[u8]) -> bool {
-    for at in 0..printed.len() {
-        let rest = &printed[at..];
-        if rest.len() >= line.len() && is_same(&rest[..line.len()], line) {
-            return true;
-        }
-    }
-    false
-}
 
 // Whether a URL was printed as saved.
 fn was_saved(alloc: Global, port: u16, printed: &[u8], name: &str) -> Result<bool, AllocError> {
@@ -54,16 +43,9 @@ fn is_right<R: Runtime + Net<Listener = TcpListener, Stream = TcpStream>>(
     let server = Server::start(rt, 2)?;
     let port = server.address.port();
     let list = format!(in alloc; "http://127.0.0.1:{port}/a\nhttp://127.0.0.1:{port}/b")?;
-    let given = asked(alloc, &[], 64, 0)?;
-    let ran = save(
-        rt,
-        &given,
-        list.as_bytes(),
-        &["a", "b"],
-        server,
-        u64::MAX,
-        FolderError::Full,
-    )?;
+    let given = asked(alloc, &[], 64, 1, 0, None)?;
+    let folder = MemoryFolder::new(alloc, 2, u64::MAX, FolderError::Full);
+    let ran = save(rt, &given, list.as_bytes(), &["a", "b"], server, folder)?;
     let first = was_saved(alloc, port, ran.printed.as_slice(), "a")?;
     let second = was_saved(alloc, port, ran.printed.as_slice(), "b")?;
     let Some((one, two)) = bodies_in(ran.held.as_slice()) else {

@@ -30,14 +30,48 @@ pub fn next_request(stream: &mut TcpStream) -> Option<u8> {
     None
 }
 
-// The answer to a path that begins with this byte: not found, or the byte three times.
+/// How many bytes the long body has, each of which is the letter l.
+pub const LONG: u32 = 1_000_000;
+
+// How many of them are written at a time.
+const PIECE: u32 = 10_000;
+
+// The head of the answer to a path that begins with this byte: not found, not now, nothing to save, a long body, or one of three bytes.
+fn head_of(path: u8) -> &'static [u8] {
+    match path {
+        b'n' => b"HTTP/1.1 404 Not Found\r\nContent-Length: 3\r\nConnection: close\r\n\r\n",
+        b'u' => {
+            b"HTTP/1.1 503 Service Unavailable\r\nContent-Length: 3\r\nConnection: close\r\n\r\n"
+        }
+        b'v' => b"HTTP/1.1 204 No Content\r\nConnection: close\r\n\r\n",
+        b'l' => b"HTTP/1.1 200 OK\r\nContent-Length: 1000000\r\nConnection: close\r\n\r\n",
+        _ => b"HTTP/1.1 200 OK\r\nContent-Length: 3\r\nConnection: close\r\n\r\n",
+    }
+}
+
+// Writes the long body, until its reader takes no more.
+fn write_long(stream: &mut TcpStream) {
+    for _ in 0..LONG / PIECE {
+        if stream.write_all(&[b'l'; PIECE as usize]).is_err() {
+            return;
+        }
+    }
+}
+
+// Answers a path that begins with this byte: whether that goes well, which isn't asked of the long body. A body of three bytes is the byte
+// three times.
 fn answer(stream: &mut TcpStream, path: u8) -> bool {
-    let head: &[u8] = if path == b'n' {
-        b"HTTP/1.1 404 Not Found\r\nContent-Length: 3\r\nConnection: close\r\n\r\n"
-    } else {
-        b"HTTP/1.1 200 OK\r\nContent-Length: 3\r\nConnection: close\r\n\r\n"
-    };
-    stream.write_all(head).is_ok() && stream.write_all(&[path, path, path]).is_ok()
+    if stream.write_all(head_of(path)).is_err() {
+        return false;
+    }
+    match path {
+        b'v' => true,
+        b'l' => {
+            write_long(stream);
+            true
+        }
+        _ => stream.write_all(&[path, path, path]).is_ok(),
+    }
 }
 
 // Serves so many connections, and says on how many of them a request was answered.

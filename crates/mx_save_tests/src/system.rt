@@ -1,12 +1,15 @@
 //! Saving to a folder of the system: scenarios, each a list of steps.
 
-use crate::bodies::{Pieces, is_same, name_of};
+use crate::bodies::{BYE, HELLO, Pieces, is_same, name_of};
+use crate::parts::{How, save_alone};
+use crate::three_parts::{Order, Three, is_told, save_three, three_names};
 use mx_file_name::{FileName, PartName, part_name};
 use mx_folder::{Folder, FolderError, Kind, PartFile, SystemFolder, Unplaced};
-use mx_save::{Ledger, SaveError, save_body};
+use mx_save::{SaveError, Unsaved};
 use mx_types::OutOfMemory;
 use std::alloc::Global;
 use std::fs;
+use std::fs::File;
 use std::os::unix::fs::symlink;
 use std::rt::Files;
 use std::test::Fail;
@@ -29,22 +32,38 @@ enum OnFiles {
 struct SaveCall {
     folder: &'static str,
     url: &'static str,
-    body: &'static [&'static [u8]],
+    body: Pieces,
     flush: bool,
     answer: Result<(), SaveError>,
+}
+
+// Three saves by a run of its own, whose parts are out at a time, and what is told of them, in the order in which the parts come back.
+struct ThreeSaves {
+    folder: &'static str,
+    three: Three<'static>,
+    told: &'static str,
 }
 
 // A call of the folder that is open.
 enum OnOpen {
     // The URL that gives the name, and what is answered.
     Look(&'static str, Result<Kind, FolderError>),
-    // A save, flushed, by the first part.
-    Save(&'static str, &'static [&'static [u8]], Result<(), SaveError>),
+    // A save, flushed, by a run of its own.
+    Save(&'static str, Pieces, Result<(), SaveError>),
+}
+
+impl OnOpen {
+    fn url(&self) -> &'static str {
+        match self {
+            OnOpen::Look(url, _) | OnOpen::Save(url, _, _) => *url,
+        }
+    }
 }
 
 enum Step {
     Files(OnFiles),
     Save(SaveCall),
+    Three(&'static ThreeSaves),
     // Opens the folder of this path.
     Open(&'static str),
     Folder(OnOpen),
@@ -57,7 +76,7 @@ struct Scenario {
     steps: &'static [Step],
 }
 
-static SCENARIOS: [Scenario; 5] = [
+static SCENARIOS: [Scenario; 7] = [
     Scenario {
         name: "a folder is made",
         root: "made-by-a-test",
@@ -146,6 +165,55 @@ static SCENARIOS: [Scenario; 5] = [
             Step::Files(OnFiles::RemoveFolder("look-of-a-test")),
         ],
     },
+    // rule file-whole-body
+    // rule file-no-part-left
+    Scenario {
+        name: "three parts are out at a time, come back in another order, and leave two files",
+        root: "three-of-a-test",
+        steps: &[
+            Step::Files(OnFiles::MakeFolder("three-of-a-test")),
+            Step::Files(OnFiles::MakeFile("three-of-a-test/y", "before")),
+            Step::Files(OnFiles::MakeFile("three-of-a-test/z", "before")),
+            Step::Three(&ThreeSaves {
+                folder: "three-of-a-test",
+                three: Three {
+                    bodies: [BYE, &[b"o", b"ne"], HELLO],
+                    hows: [How::Keep, How::Discard, How::Keep],
+                    order: Order::SecondThirdFirst,
+                },
+                told: "discarded\nsaved\nsaved\n",
+            }),
+            Step::Files(OnFiles::Holds("three-of-a-test/x", "bye")),
+            Step::Files(OnFiles::Holds("three-of-a-test/y", "before")),
+            Step::Files(OnFiles::Holds("three-of-a-test/z", "hello you")),
+            Step::Files(OnFiles::Lacks("three-of-a-test/.mxfetch-42-0.part")),
+            Step::Files(OnFiles::Lacks("three-of-a-test/.mxfetch-42-1.part")),
+            Step::Files(OnFiles::Lacks("three-of-a-test/.mxfetch-42-2.part")),
+            Step::Files(OnFiles::RemoveFolder("three-of-a-test")),
+        ],
+    },
+    // rule file-links-and-folders
+    Scenario {
+        name: "a folder is in the way of one of three, which are kept in another order",
+        root: "three-ways-of-a-test",
+        steps: &[
+            Step::Files(OnFiles::MakeFolder("three-ways-of-a-test")),
+            Step::Files(OnFiles::MakeFolder("three-ways-of-a-test/y")),
+            Step::Three(&ThreeSaves {
+                folder: "three-ways-of-a-test",
+                three: Three {
+                    bodies: [BYE, &[b"o", b"ne"], HELLO],
+                    hows: [How::Keep, How::Keep, How::Keep],
+                    order: Order::ThirdSecondFirst,
+                },
+                told: "saved\nsomething else has that name\nsaved\n",
+            }),
+            Step::Files(OnFiles::Holds("three-ways-of-a-test/x", "bye")),
+            Step::Files(OnFiles::Holds("three-ways-of-a-test/z", "hello you")),
+            Step::Files(OnFiles::Lacks("three-ways-of-a-test/.mxfetch-42-1.part")),
+            Step::Files(OnFiles::RemoveFolder("three-ways-of-a-test")),
+        ],
+    },
     Scenario {
         name: "a folder that is gone, and a file where the folder is to be",
         root: "gone-of-a-test",
@@ -192,16 +260,14 @@ fn is_done<R: Files + AllocGlobal>(rt: &R, step: &OnFiles) -> bool {
 }
 
 // Saves in a folder by a run of its own.
-fn save_in<R: Files>(
+fn save_in<F: Folder>(
     alloc: Global,
-    folder: SystemFolder<'_, R>,
+    folder: F,
     name: &FileName,
-    body: &Pieces,
+    body: &[&[u8]],
     flush: bool,
 ) -> Result<(), SaveError> {
-    let mut ledger = Ledger::new(alloc, 42, folder, flush);
-    let saved = ledger.save(name, body);
-    let (folder, flushed) = ledger.finish();
+    let (saved, flushed, folder) = save_alone(alloc, folder, name, body, flush);
     drop(folder);
     match (saved, flushed) {
         (Ok(()), Ok(())) => Ok(()),
@@ -211,43 +277,80 @@ fn save_in<R: Files>(
 }
 
 // Whether a save by a run of its own answers what it has to.
-fn is_saved<R: Files + AllocGlobal>(rt: &R, save: &SaveCall) -> Result<bool, OutOfMemory> {
+fn is_saved<R: Files<File = File> + AllocGlobal>(
+    rt: &R,
+    save: &SaveCall,
+) -> Result<bool, OutOfMemory> {
     let name = name_of(rt.alloc(), save.url)?;
-    let body = Pieces { pieces: save.body };
     let saved = match SystemFolder::open(rt.alloc(), rt, save.folder) {
-        Ok(folder) => save_in(rt.alloc(), folder, &name, &body, save.flush),
+        Ok(folder) => save_in(rt.alloc(), folder, &name, save.body, save.flush),
         Err(error) => Err(SaveError::Create(error)),
     };
     Ok(saved == save.answer)
 }
 
-// Whether a call of the folder that is open answers what it has to.
-fn is_answered<R: Files>(
-    alloc: Global,
-    folder: &mut SystemFolder<'_, R>,
-    step: &OnOpen,
+// Whether that is told of three saves by a run of its own.
+fn are_saved<R: Files<File = File> + AllocGlobal>(
+    rt: &R,
+    saves: &ThreeSaves,
 ) -> Result<bool, OutOfMemory> {
-    match step {
-        OnOpen::Look(url, wanted) => {
-            let name = name_of(alloc, *url)?;
-            Ok(folder.look(&name) == *wanted)
+    let names = three_names(rt.alloc())?;
+    match SystemFolder::open(rt.alloc(), rt, saves.folder) {
+        Ok(folder) => {
+            let (told, folder) = save_three(rt.alloc(), folder, &names, &saves.three);
+            drop(folder);
+            is_told(rt.alloc(), &told, saves.told)
         }
-        OnOpen::Save(url, body, wanted) => {
-            let name = name_of(alloc, *url)?;
-            let part = part_name(alloc, 42, 0)?;
-            let body = Pieces { pieces: *body };
-            Ok(
-                match save_body(folder, &part, &name, &body, true, &mut []) {
-                    Ok(()) => wanted.is_ok(),
-                    Err(refused) => *wanted == Err(refused.error) && refused.left.is_none(),
-                },
-            )
+        Err(_) => Ok(false),
+    }
+}
+
+// Whether a save answers that, and no part is left.
+fn is_refused_so(saved: Result<(), Unsaved>, wanted: Result<(), SaveError>) -> bool {
+    match saved {
+        Ok(()) => wanted.is_ok(),
+        Err(unsaved) => wanted == Err(unsaved.error) && unsaved.left.is_none(),
+    }
+}
+
+// Whether a call of the folder that is open answers what it has to, and the folder.
+fn is_answered<'a, R: Files<File = File>>(
+    alloc: Global,
+    mut folder: SystemFolder<'a, R>,
+    name: &FileName,
+    step: &OnOpen,
+) -> (bool, SystemFolder<'a, R>) {
+    match step {
+        OnOpen::Look(_, wanted) => {
+            let found = folder.look(name);
+            (found == *wanted, folder)
+        }
+        OnOpen::Save(_, body, wanted) => {
+            let (saved, _, folder) = save_alone(alloc, folder, name, *body, true);
+            (is_refused_so(saved, *wanted), folder)
         }
     }
 }
 
+// The same, where one is open.
+fn is_answered_if_open<R: Files<File = File>>(
+    alloc: Global,
+    open: &mut Option<SystemFolder<'_, R>>,
+    step: &OnOpen,
+) -> Result<bool, OutOfMemory> {
+    let name = name_of(alloc, step.url())?;
+    match open.take() {
+        Some(folder) => {
+            let (is_right, folder) = is_answered(alloc, folder, &name, step);
+            *open = Some(folder);
+            Ok(is_right)
+        }
+        None => Ok(false),
+    }
+}
+
 // Whether a step answers what it has to.
-fn is_right<'a, R: Files + AllocGlobal>(
+fn is_right<'a, R: Files<File = File> + AllocGlobal>(
     rt: &'a R,
     open: &mut Option<SystemFolder<'a, R>>,
     step: &Step,
@@ -255,19 +358,17 @@ fn is_right<'a, R: Files + AllocGlobal>(
     match step {
         Step::Files(step) => Ok(is_done(rt, step)),
         Step::Save(save) => is_saved(rt, save),
+        Step::Three(saves) => are_saved(rt, *saves),
         Step::Open(path) => {
             *open = SystemFolder::open(rt.alloc(), rt, *path).ok();
             Ok(open.is_some())
         }
-        Step::Folder(step) => match open {
-            Some(folder) => is_answered(rt.alloc(), folder, step),
-            None => Ok(false),
-        },
+        Step::Folder(step) => is_answered_if_open(rt.alloc(), open, step),
     }
 }
 
 // The number of the first step, from 0 on, that answers something else.
-fn wrong_step<R: Files + AllocGlobal>(
+fn wrong_step<R: Files<File = File> + AllocGlobal>(
     rt: &R,
     steps: &[Step],
 ) -> Result<Option<usize>, OutOfMemory> {
@@ -281,7 +382,7 @@ fn wrong_step<R: Files + AllocGlobal>(
 }
 
 // Fails with the scenario where it has such a step, and with the number of that.
-fn play<R: Files + AllocGlobal>(rt: &R, row: &Scenario) -> Result<(), Fail> {
+fn play<R: Files<File = File> + AllocGlobal>(rt: &R, row: &Scenario) -> Result<(), Fail> {
     let _ = fs::remove_dir_all(rt, row.root);
     let name = row.name;
     match wrong_step(rt, row.steps)? {
@@ -291,7 +392,7 @@ fn play<R: Files + AllocGlobal>(rt: &R, row: &Scenario) -> Result<(), Fail> {
 }
 
 // Fails with the first that does.
-fn play_each<R: Files + AllocGlobal>(rt: &R) -> Result<(), Fail> {
+fn play_each<R: Files<File = File> + AllocGlobal>(rt: &R) -> Result<(), Fail> {
     for row in &SCENARIOS {
         play(rt, row)?;
     }
@@ -344,7 +445,10 @@ fn are_apart<F: Folder>(
 }
 
 // Whether two parts of this folder, in which a folder has one of the names, are apart.
-fn are_apart_in<R: Files + AllocGlobal>(rt: &R, path: &str) -> Result<bool, OutOfMemory> {
+fn are_apart_in<R: Files<File = File> + AllocGlobal>(
+    rt: &R,
+    path: &str,
+) -> Result<bool, OutOfMemory> {
     let parts = [part_name(rt.alloc(), 42, 0)?, part_name(rt.alloc(), 42, 1)?];
     let name = name_of(rt.alloc(), "http://h/x")?;
     let taken = name_of(rt.alloc(), "http://h/y")?;
@@ -355,7 +459,7 @@ fn are_apart_in<R: Files + AllocGlobal>(rt: &R, path: &str) -> Result<bool, OutO
 }
 
 // Fails where they aren't, or their files are others.
-fn play_parts<R: Files + AllocGlobal>(rt: &R) -> Result<(), Fail> {
+fn play_parts<R: Files<File = File> + AllocGlobal>(rt: &R) -> Result<(), Fail> {
     let _ = fs::remove_dir_all(rt, "parts-of-a-test");
     let is_made = fs::create_dir_all(rt, "parts-of-a-test/y").is_ok();
     let are_apart = are_apart_in(rt, "parts-of-a-test")?;

@@ -58,12 +58,7 @@ fn get<R: Runtime + Net<Listener = TcpListener, Stream = TcpStream>>(
     }
     let mut printed = Vec::new(rt.alloc());
     let status = if options.are_within() {
-        run_get(
-            rt,
-            words.as_slice(),
-            options,
-            &mut Output::new(&mut printed),
-        )
+        run_get(rt, words.as_slice(), options, Output::new(&mut printed)).status
     } else {
         120
     };
