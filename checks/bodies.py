@@ -12,16 +12,15 @@ BLOCK = os.urandom(MIB)
 
 
 class BodyRun:
-    """What a run of `mxfetch get --body` wrote: how many bytes, their sum, and the last five. Its output is read `pause` seconds after each
-    piece. The most memory that it had is looked at when the first piece and the last came."""
+    """What a run of `mxfetch get --body` wrote: how many bytes, and their sum. Its output is read `pause` seconds after each piece. The most
+    memory that it had is looked at when the first piece and the last came."""
 
     def __init__(self, words, pause=0, asked=None):
         child = subprocess.Popen([PROGRAM, "get", "--body"] + words, stdin=subprocess.DEVNULL, stdout=subprocess.PIPE, stderr=subprocess.PIPE,
                                  env={**os.environ, **(asked or {})})
-        self.length, self.last, self.peak, sums = 0, b"", 0, hashlib.blake2b()
+        self.length, self.peak, sums = 0, 0, hashlib.blake2b()
         while piece := os.read(child.stdout.fileno(), MIB):
             self.length += len(piece)
-            self.last = (self.last + piece)[-5:]
             sums.update(piece)
             time.sleep(pause)
             self.look(child.pid)
@@ -38,8 +37,15 @@ class BodyRun:
             pass
 
 
+def sum_of_all(pieces):
+    sums = hashlib.blake2b()
+    for piece in pieces:
+        sums.update(piece)
+    return sums.hexdigest()
+
+
 def sum_of(body):
-    return hashlib.blake2b(body).hexdigest()
+    return sum_of_all([body])
 
 
 def want_body(run, body, status=0):
@@ -52,10 +58,9 @@ def want_told(run, url, words):
 
 
 def blocks(length):
-    """So many bytes, block by block."""
-    while length > 0:
-        yield BLOCK[:min(length, MIB)]
-        length -= MIB
+    """So many bytes, block by block, each with its number in front."""
+    for number in range(-(-length // MIB)):
+        yield (number.to_bytes(8, "big") + BLOCK[8:])[:length - number * MIB]
 
 
 def sending(connection, _):
@@ -92,8 +97,7 @@ def case_body_of_any_length():
         for framing, length in (("chunked", 80 * MIB), ("close", 80 * MIB + 3), ("counted", 2 ** 32 + 5)):
             run = BodyRun([server.url(f"/{framing}/{length}")])
             want(run.status == 0 and run.length == length, f"{framing}: exit status {run.status}, {run.length} bytes of {length}")
-            tail = (BLOCK + BLOCK[:length % MIB])[-5:]
-            want(run.last == tail, f"{framing}: other bytes at the end")
+            want(run.sum == sum_of_all(blocks(length)), f"{framing}: other bytes")
             want(run.peak <= 12 * MIB, f"{framing}: a peak of {run.peak // 1024} KiB")
             print(f"    {framing}, {length} bytes: peak {run.peak // 1024} KiB")
 
@@ -119,11 +123,21 @@ def case_body_behind_a_redirect():
 
 
 # rule get-body
+# rule get-body-failures
 def case_body_that_fails_is_a_prefix():
+    # 47 bytes
+    chunks = b"HTTP/1.1 200 OK\r\nTransfer-Encoding: chunked\r\n\r\n"
     rows = [
-        (b"HTTP/1.1 200 OK\r\nContent-Length: 10\r\n\r\nhello", b"hello", 18, "the response ended within its body (18)"),
-        (b"HTTP/1.1 200 OK\r\nTransfer-Encoding: chunked\r\n\r\n5\r\nhello\r\nxyz\r\n", b"hello", 56, None),
-        (b"HTTP/1.1 200 OK\r\nContent-Length: x\r\n\r\nhello", b"", 8, None),
+        (b"HTTP/1.1 200 OK\r\nContent-Length: 10\r\n\r\nhello", b"hello", 18, "the response ended within its body: 5 of 10 bytes of the body came (18)"),
+        (chunks + b"5\r\nhel", b"hel", 18, "the response ended within its body: 53 bytes came, and no last chunk (18)"),
+        (chunks + b"5\r\nhello\r\nxyz\r\n", b"hello", 56,
+         "the response is refused at byte 58: it isn't allowed in the line of a chunk's size (RFC 9112, section 7.1) (56)"),
+        (chunks + b"5\r\nhelloX", b"hello", 56, "the response is refused at byte 56: no CRLF follows a chunk's data (RFC 9112, section 7.1) (56)"),
+        (chunks + b"0\r\nA: b\n", b"", 56, "the response is refused at byte 55: it isn't allowed in a trailer section (RFC 9112, section 7.1.2) (56)"),
+        (b"HTTP/1.1 200 OK\r\nContent-Length: x\r\n\r\nhello", b"", 8,
+         "the response is refused at byte 38: Content-Length isn't one number, or HTTP/1.0 has a Transfer-Encoding (RFC 9112, sections 6.1 and 6.3) (8)"),
+        (b"SSH-2.0-x\r\n", b"", 8, "the response is refused at byte 1: it isn't allowed in a status line (RFC 9112, section 4) (8)"),
+        (b"HTTP/1.1 20", b"", 8, "the response ended within its head: 11 bytes came, and no whole head (8)"),
         (b"", b"", 52, None),
     ]
     for answer, body, status, words in rows:
@@ -160,7 +174,7 @@ def case_body_that_cannot_be_written():
         came = os.read(child.stdout.fileno(), 10)
         child.stdout.close()
         err = child.stderr.read()
-        want(child.wait(timeout=60) == 23 and came == BLOCK[:10] and err.endswith(b"(23)\n"), f"closed: exit status {child.returncode}, {err!r}")
+        want(child.wait(timeout=60) == 23 and came == next(blocks(10)) and err.endswith(b"(23)\n"), f"closed: exit status {child.returncode}, {err!r}")
 
 
 def case_body_words_that_are_refused():

@@ -312,6 +312,90 @@ def case_full_output():
         want(child.returncode == 121, f"exit status {child.returncode}")
 
 
+class Printing:
+    """A run of `get` whose output is read as it comes, over a server that answers `/held` only once `go` is set."""
+
+    def __init__(self, words, paths):
+        self.go, self.asked = threading.Event(), []
+
+        def serve(connection, _):
+            while (path := read_request(connection)) is not None:
+                self.asked.append(path)
+                want(path != "/held" or self.go.wait(60), "it was held for a minute")
+                connection.sendall(counted(body_of(path)))
+
+        self.server = Server(serve)
+        with self.server:
+            # SIGPIPE is ignored, as by a shell that was started so: a write to a pipe that nobody reads fails
+            self.child = subprocess.Popen([PROGRAM, "get"] + words + [self.server.url(path) for path in paths], stdin=subprocess.DEVNULL,
+                                          stdout=subprocess.PIPE, stderr=subprocess.DEVNULL, restore_signals=False)
+            watch = threading.Timer(300, self.child.kill)  # one that hangs
+            watch.start()
+            try:
+                self.check()
+            finally:
+                self.go.set()
+                self.child.stdout.close()
+                self.status = self.child.wait()
+                watch.cancel()
+
+    def read(self, wanted):
+        """Reads as many bytes as are wanted, and compares them."""
+        found = self.child.stdout.read(len(wanted))
+        want(found == wanted, f"{found[:60]!r} in place of {wanted[:60]!r}")
+
+
+def text_of(handle, path):
+    body = body_of(path)
+    return f"transfer {handle} code 0 status 200 length {len(body)}\n".encode() + body + b"\n"
+
+
+# rule get-at-once
+def case_printed_while_others_run():
+    class Early(Printing):
+        def check(self):
+            self.read(text_of(0, "/a"))
+            want(not self.go.is_set() and self.child.poll() is None, "it had ended")
+            self.go.set()
+            self.read(text_of(1, "/held") + text_of(2, "/b"))
+            want(self.child.stdout.read() == b"", "it printed more")
+
+    for words in (["--workers", "1"], ["--workers", "2"], ["--at-once", "1"]):
+        run = Early(words, ["/a", "/held", "/b"])
+        want(run.status == 0, f"{words}: exit status {run.status}")
+
+
+# rule get-at-once
+def case_printed_bodies_are_freed():
+    # a body that was printed is freed, whatever comes after it
+    large = bytes(16 * MIB)
+
+    def serve(connection, _):
+        while read_request(connection) is not None:
+            connection.sendall(counted(large))
+
+    with Server(serve) as server:
+        run = Run(["--workers", "1", "--at-once", "1"] + [server.url(f"/{number}") for number in range(16)])
+        want(run.status == 0 and len(run.ends) == 16 and all(end == (0, 200, large) for end in run.ends), f"exit status {run.status}")
+        want(run.peak < 80 * MIB, f"a peak of {run.peak // MIB} MiB")
+        print(f"    16 x 16 MiB in turn: peak {run.peak // MIB} MiB")
+
+
+# rule get-at-once
+# rule program-unwritten
+def case_later_write_fails():
+    class Left(Printing):
+        def check(self):
+            self.read(text_of(0, "/a"))
+            self.child.stdout.close()
+            self.go.set()
+            self.child.wait()
+
+    run = Left(["--workers", "1"], ["/a", "/held", "/b", "/c"])
+    want(run.status == 121, f"exit status {run.status}")
+    want(run.asked == ["/a", "/held"], f"asked for {run.asked}")
+
+
 def case_what_the_system_refuses():
     # the first new thread, poll or reading of a clock, and all others
     rows = [("thread", "a thread can't be started"), ("poll", "the system gives no poll of sockets, or has too many open files"),

@@ -83,7 +83,7 @@ def add(text):
 
 
 def add_option(name, takes, argument, default, text):
-    value = {"Nothing": "", "NothingBeside": "", "Number": "N", "Method": "M"}.get(takes, (argument or "").strip('"'))
+    value = {"Nothing": "", "NothingBeside": "", "Number": "N", "Bytes": "N", "Method": "M"}.get(takes, (argument or "").strip('"'))
     shown = rf"\fB\-\-{escaped(name)}\fR" + (rf" \fI{escaped(value)}\fR" if value else "")
     text = unquoted(text) + (f" [default: {default[6:-2]}]" if default != "None" else "")
     lines.extend([".TP", shown, escaped(text)])

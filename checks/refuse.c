@@ -1,8 +1,9 @@
 /* A library that refuses the growth of memory whose number is REFUSE_GROWTH, counted from 1 since the program was loaded, and then
    makes the file REFUSE_NOTE, and as many after it as REFUSE_ON says; that refuses each flush, by EIO, of a folder where REFUSE_FLUSH is
    `folder`, of a file where it is `file`; with REFUSE_REMOVE, by EACCES, to remove a file; and each new thread, each new poll or each
-   reading of a clock, where REFUSE_SYSTEM is `thread`, `poll` or `clock`. Loaded by LD_PRELOAD; checks/refused-growths.sh, checks/get.sh and
-   checks/save.sh compile it. */
+   reading of a clock, where REFUSE_SYSTEM is `thread`, `poll` or `clock`; and of which a write that begins with STALL_WRITE makes the file
+   STALL_NOTE, and goes on once that is removed. Loaded by LD_PRELOAD; checks/refused-growths.sh, checks/get.sh and checks/save.sh compile
+   it. */
 #define _GNU_SOURCE
 #include <dlfcn.h>
 #include <errno.h>
@@ -94,4 +95,15 @@ int unlink(const char *path) {
     return -1;
   }
   return (int)syscall(SYS_unlink, path);
+}
+
+ssize_t write(int file, const void *bytes, size_t size) {
+  const char *stalled = getenv("STALL_WRITE");
+  if (stalled && size >= strlen(stalled) && memcmp(bytes, stalled, strlen(stalled)) == 0) {
+    const char *note = getenv("STALL_NOTE");
+    int made = open(note, O_WRONLY | O_CREAT, 0600);
+    if (made >= 0) close(made);
+    while (access(note, F_OK) == 0) usleep(1000);
+  }
+  return syscall(SYS_write, file, bytes, size);
 }

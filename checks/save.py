@@ -7,6 +7,7 @@ import pty
 import random
 import re
 import resource
+import shutil
 import signal
 import subprocess
 import sys
@@ -14,6 +15,8 @@ import threading
 import time
 
 import hostile
+import streams
+from bodies import blocks, sending
 from saving import (WORDS, Saved, files_in, folder, make_read_only, parse, parts_in, small_disk, start, want_files, want_lines)
 from servers import (MIB, PROGRAM, WORK, Nginx, Server, Wrong, body_of, chunked, counted, deaf, keeping, read_head, read_request,
                      until_closed, want)
@@ -65,6 +68,120 @@ def case_nginx_large_files():
         run = Saved([server.url(name) for name in files], into)
         want_lines(run, [("saved", 0, 200, 16 * MIB, name, server.url(name)) for name in files], 0)
         want_files(into, files)
+
+
+# rule save-bodies
+def case_bodies_of_any_length():
+    # more than 32 bits count, in the memory of a few windows; what is on the disk is compared block by block
+    rows = [("counted", 300 * MIB, 1), ("chunked", 300 * MIB + 1, 4), ("close", 300 * MIB + 3, 16), ("counted", 2 ** 32 + 5, 2)]
+    with Server(sending) as server:
+        for framing, length, workers in rows:
+            row, into = f"{framing}, {length} bytes, {workers} workers", folder()
+            if shutil.disk_usage(into).free < length + 1024 * MIB:
+                print(f"    {row}: skipped: the disk has no room")
+                continue
+            path = f"/{framing}/{length}"
+            run = Saved(["--workers", str(workers), server.url(path)], into, seconds=1200)
+            want_lines(run, [("saved", 0, 200, length, str(length), server.url(path))], 0)
+            want(os.listdir(into) == [str(length)], f"{row}: there is {os.listdir(into)}")
+            with open(os.path.join(into, str(length)), "rb") as file:
+                want(all(file.read(len(block)) == block for block in blocks(length)) and not file.read(1), f"{row}: other bytes")
+            shutil.rmtree(into)
+            want(run.peak <= 12 * MIB, f"{row}: a peak of {run.peak // 1024} KiB")
+            print(f"    {row}: {run.seconds:.1f} s, processor {run.processor:.1f} s, peak {run.peak // 1024} KiB")
+
+
+def case_many_large_bodies_at_once():
+    # a transfer holds no body, however many run
+    with Server(sending) as server:
+        into, urls = folder(), [server.url(f"/counted/{20 * MIB + number}") for number in range(32)]
+        if shutil.disk_usage(into).free < 1024 * MIB:
+            return print("    skipped: the disk has no room")
+        run = Saved(["--at-once", "32", "--workers", "4", *urls], into)
+        want_lines(run, [("saved", 0, 200, 20 * MIB + number, str(20 * MIB + number), url) for number, url in enumerate(urls)], 0)
+        want(run.peak <= 12 * MIB, f"a peak of {run.peak // 1024} KiB")
+        print(f"    32 bodies of 20 MiB: peak {run.peak // 1024} KiB")
+        shutil.rmtree(into)
+
+
+LIMIT = 300000
+BODY = os.urandom(LIMIT + 1)
+
+
+def limited(connection, _):
+    """Answers /FRAMING/LENGTH with so many bytes in that framing, and /moved/LENGTH with a redirect. Of a body over LIMIT it sends no more than
+    shows that it is: its length, the size of a chunk, or one byte more than the limit; and then it waits for the end of the connection."""
+    while (path := read_request(connection)) is not None:
+        _, framing, length = path.split("/")
+        length = int(length)
+        is_counted = framing in ("counted", "moved")
+        line = "302 Found\r\nLocation: /counted/1" if framing == "moved" else "200 OK"
+        head = f"Content-Length: {length}\r\n" if is_counted else "" if framing == "close" else "Transfer-Encoding: chunked\r\n"
+        connection.sendall(f"HTTP/1.1 {line}\r\n{head}\r\n".encode())
+        if framing == "sized":
+            connection.sendall(b"%x" % length)
+        elif not is_counted or length <= LIMIT:
+            for at in range(0, length, 7000):
+                piece = BODY[at:min(at + 7000, length)]
+                connection.sendall(b"%x\r\n" % len(piece) + piece + b"\r\n" if framing == "chunked" else piece)
+        if length > LIMIT:
+            return until_closed(connection)
+        if framing == "close":
+            return None
+        if framing == "chunked":
+            connection.sendall(b"0\r\n\r\n")
+
+
+# rule save-limit
+def case_bodies_over_a_limit():
+    # a body of as many bytes as the limit says is saved; one of a byte more fails with 63 as soon as it shows, and isn't tried again
+    with Server(limited) as server:
+        whole = [server.url(f"/{framing}/{LIMIT}") for framing in ("counted", "chunked", "close")]
+        over = [server.url(f"/{framing}/{LIMIT + 1}") for framing in ("counted", "chunked", "close", "sized", "moved")]
+        names = [str(LIMIT), f"{LIMIT}#1", f"{LIMIT}#2"]
+        lines = [("saved", 0, 200, LIMIT, name, url) for name, url in zip(names, whole)]
+        lines += [failed(63, 302 if "moved" in url else 200, url) for url in over]
+        for words in (["--workers", "1"], ["--workers", "4", "--retry", "2"]):
+            into, begun = folder(), server.count
+            run = Saved(words + ["--max-filesize", str(LIMIT)] + whole + over, into, seconds=60)
+            want_lines(run, lines, 63)
+            want_files(into, {name: BODY[:LIMIT] for name in names})
+            for url in over:
+                want(f"mxfetch: {url}: the response is too large (63)\n".encode() in run.err, f"{url}: {run.err!r}")
+            want(server.count - begun <= len(lines), f"{server.count - begun} connections")
+
+
+def case_a_disk_that_stalls():
+    # the first write of a body that comes in many pieces goes on once that is allowed, and its worker does nothing else: the others go on
+    body, paths = b"stalled" + os.urandom(MIB), [f"/s{number}" for number in range(8)]
+
+    def serving(connection, _):
+        while (path := read_request(connection)) is not None:
+            connection.sendall(counted(body if path == "/stalled" else body_of(path)))
+
+    with Server(serving) as server:
+        for workers in ("2", "4", "16"):
+            into, note = folder(), os.path.join(folder(), "note")
+            child = start(["--workers", workers, "--at-once", "16", "--into", into, "--input", "-"], stdin=subprocess.PIPE,
+                          stdout=subprocess.PIPE,
+                          env={**os.environ, "STALL_WRITE": "stalled", "STALL_NOTE": note, "LD_PRELOAD": os.path.join(WORK, "refuse.so")})
+            ends = threading.Timer(60, child.kill)
+            ends.start()
+            child.stdin.write(f"{server.url('/stalled')}\n".encode())
+            child.stdin.flush()
+            while not os.path.exists(note) and child.poll() is None:
+                time.sleep(0.005)
+            child.stdin.write("".join(f"{server.url(path)}\n" for path in paths).encode())
+            child.stdin.close()
+            told = b"".join(child.stdout.readline() for _ in paths)
+            want(os.path.exists(note) and child.poll() is None, f"{workers} workers: no write stalls, or what others save isn't told meanwhile")
+            want(sorted(parse(told)) == sorted(saved(server, path, path[1:], body_of(path)) for path in paths), f"{workers} workers: {told}")
+            want(len(parts_in(into)) == 1, f"{workers} workers: parts {parts_in(into)}")
+            os.remove(note)
+            want(parse(child.stdout.read()) == [saved(server, "/stalled", "stalled", body)], f"{workers} workers: the body isn't saved")
+            want(child.wait() == 0, f"{workers} workers: exit status {child.returncode}")
+            ends.cancel()
+            want_files(into, {"stalled": body, **{path[1:]: body_of(path) for path in paths}})
 
 
 def case_python_http_server():
@@ -374,7 +491,8 @@ def case_read_only_folder():
             return
         make_read_only(into)
         run = Saved([server.url("/a"), server.url("/b")], into)
-        want_lines(run, [failed(23, 200, server.url(path)) for path in ("/a", "/b")], 23)
+        # no part can be made, so that nothing is fetched
+        want_lines(run, [failed(23, 0, server.url(path)) for path in ("/a", "/b")], 23)
         below = Saved([server.url("/a")], os.path.join(into, "below"))
         want(below.status == 23 and below.out == b"" and below.err.startswith(b"mxfetch: "), f"{below.status} {below.err!r}")
 
@@ -962,7 +1080,8 @@ def case_a_mix_of_all():
                 files[name] = sends(path)
                 want(length == len(files[name]), f"{served.__name__}: {length} bytes")
         want_files(into, files)
-        want(run.peak < 256 * MIB and run.descriptors <= 512, f"{run.peak // MIB} MiB, {run.descriptors} descriptors")
+        # a connection and a part for each transfer, four idle connections for each worker, and a few
+        want(run.peak < 256 * MIB and run.descriptors <= 600, f"{run.peak // MIB} MiB, {run.descriptors} descriptors")
 
 
 def case_refused_connection_and_unknown_host():
@@ -1008,8 +1127,8 @@ def case_ten_thousand_urls():
             run = Saved(["--history", "4096", "--at-once", "32"], into, urls, 1200)
             want(run.status == 0 and len(run.lines) == count, f"exit status {run.status}, {len(run.lines)} lines; {run.err!r}")
             want_files(into, {f"n{number:05}": f"/n{number:05}".encode() for number in range(count)})
-            # of descriptors one for each transfer, at most 8 for idle connections, and a few
-            want(run.threads <= 8 and run.descriptors <= 64, f"{run.threads} threads, {run.descriptors} descriptors")
+            # of descriptors a connection and a part for each transfer, at most 8 for idle connections, and a few
+            want(run.threads <= 8 and run.descriptors <= 96, f"{run.threads} threads, {run.descriptors} descriptors")
             peaks[count] = run.peak
             print(f"    {count} URLs: {run.seconds:.2f} s, processor {run.processor:.2f} s, peak {run.peak / MIB:.1f} MiB, "
                   f"{run.threads} threads, {run.descriptors} descriptors")
@@ -1166,7 +1285,7 @@ def case_refused_growths():
 
 
 def main():
-    cases = [(name[5:], case) for name, case in globals().items() if name.startswith("case_")]
+    cases = [(name[5:], case) for name, case in [*globals().items(), *vars(streams).items()] if name.startswith("case_")]
     word = sys.argv[1] if len(sys.argv) > 1 else ""
     if not any(word in name for name, _ in cases):
         sys.exit(f"no case has {word!r} in its name")

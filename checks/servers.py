@@ -16,6 +16,7 @@ PROGRAM = os.environ["PROGRAM"]
 WORK = os.environ["WORK"]
 MIB = 1 << 20
 LINE = re.compile(rb"transfer (\d+) code (\d+) status (\d+) length (\d+)\n")
+FAULT = b"FAULT 27\n"
 
 
 class Wrong(Exception):
@@ -30,8 +31,8 @@ def want(is_so, what):
 # --- runs ---------------------------------------------------------------------------------------------------------------
 
 class Run:
-    """What a run of `mxfetch get` printed: its ends are (code, status, body), in the order of the handles. One that hangs is ended after
-    these seconds. `first` is called in its process before it starts."""
+    """What a run of `mxfetch get` printed: its ends are (code, status, body), in the order of the handles, and `has_stopped` says whether
+    `FAULT 27` stands behind them. One that hangs is ended after these seconds. `first` is called in its process before it starts."""
 
     def __init__(self, words, seconds=300, asked=None, first=None):
         begun = time.monotonic()
@@ -54,7 +55,7 @@ class Run:
         self.seconds = time.monotonic() - begun
         self.processor = usage.ru_utime + usage.ru_stime
         want(self.status >= 0, f"ended by signal {-self.status} after {self.seconds:.1f} s")
-        self.ends = parse(self.out) if self.status not in (120, 121) and not self.out.startswith(b"FAULT") else []
+        self.ends, self.has_stopped = parse(self.out) if self.status not in (120, 121) else ([], False)
 
     def count(self, pid):
         """The most memory and descriptors that it has, as looks 20 milliseconds apart see them: what the system counts to its end is this
@@ -76,6 +77,8 @@ class Run:
 def parse(out):
     ends, at = [], 0
     while at < len(out):
+        if out[at:] == FAULT:
+            return ends, True
         line = LINE.match(out, at)
         want(line is not None, f"no line of a transfer at byte {at}: {out[at:at + 60]!r}")
         handle, code, status, length = map(int, line.groups())
@@ -85,7 +88,7 @@ def parse(out):
         want(out[at:at + 1] == b"\n", f"no end of line behind the body of {handle}")
         at += 1
         ends.append((code, status, body))
-    return ends
+    return ends, False
 
 
 def first_fault(codes):
@@ -102,7 +105,8 @@ def want_ends(run, ends):
 
 
 def refuse_growths(words, ends):
-    """Runs with each growth of memory refused in turn: each end is the one that is wanted, or has code 27."""
+    """Runs with each growth of memory refused in turn: each end is the one that is wanted, or has code 27, and one that stopped has the ends
+    of the first URLs."""
     note = os.path.join(WORK, "note")
     counts = [0, 0, 0]
     for which in range(1, 5000):
@@ -112,17 +116,16 @@ def refuse_growths(words, ends):
         run = Run(["--timeout-ms", "5000"] + words, asked=asked)
         if not os.path.exists(note):
             break
-        if run.out == b"FAULT 27\n":
-            want(run.status == 27, f"growth {which}: exit status {run.status}")
-            counts[0] += 1
-            continue
-        want(len(run.ends) == len(ends), f"growth {which}: {len(run.ends)} ends")
-        want(run.status == first_fault(run.codes()), f"growth {which}: exit status {run.status}")
+        if run.has_stopped:
+            want(run.status == 27 and len(run.ends) <= len(ends), f"growth {which}: exit status {run.status}, {len(run.ends)} ends")
+        else:
+            want(len(run.ends) == len(ends), f"growth {which}: {len(run.ends)} ends")
+            want(run.status == first_fault(run.codes()), f"growth {which}: exit status {run.status}")
         for handle, (found, wanted) in enumerate(zip(run.ends, ends)):
             want(found[0] == 27 or found == wanted, f"growth {which}: handle {handle} has code {found[0]}")
-        counts[2 if run.ends == ends else 1] += 1
+        counts[0 if run.has_stopped else 2 if run.ends == ends else 1] += 1
     want_ends(run, ends)
-    print(f"    {' '.join(words[:2])}, growths refused: {counts[0]} ended at once, {counts[1]} ended a transfer, "
+    print(f"    {' '.join(words[:2])}, growths refused: {counts[0]} ended the run, {counts[1]} ended a transfer, "
           f"{counts[2]} were done without")
 
 
