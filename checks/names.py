@@ -1,6 +1,9 @@
 """The cases of checks/names.sh: what a name server answers, and what is expected of `mxfetch get`."""
 
+import heapq
 import ipaddress
+import multiprocessing
+import select
 import shutil
 import socket
 import struct
@@ -43,19 +46,25 @@ def answer_to(query):
 
 
 class NameServer:
-    """Answers as `ADDRESSES` has it, and counts the questions for IPv4 addresses."""
+    """Answers as `ADDRESSES` has it, in a process of its own, so that no work of this one delays an answer."""
 
     def __init__(self):
         self.socket = socket.socket(socket.AF_INET, socket.SOCK_DGRAM)
         self.socket.bind(("127.0.0.1", 53))
-        threading.Thread(target=self.serve, daemon=True).start()
+        multiprocessing.get_context("fork").Process(target=self.serve, daemon=True).start()
 
     def serve(self):
+        late = []  # answers, by when they are due
         while True:
-            query, peer = self.socket.recvfrom(512)
-            delay, answer = answer_to(query)
-            if delay is not None:
-                threading.Timer(delay, self.socket.sendto, (answer, peer)).start()
+            wait = max(0, late[0][0] - time.monotonic()) if late else None
+            if select.select([self.socket], [], [], wait)[0]:
+                query, peer = self.socket.recvfrom(512)
+                delay, answer = answer_to(query)
+                if delay is not None:
+                    heapq.heappush(late, (time.monotonic() + delay, answer, peer))
+            while late and late[0][0] <= time.monotonic():
+                _, answer, peer = heapq.heappop(late)
+                self.socket.sendto(answer, peer)
 
 
 class Timed(Server):
@@ -101,22 +110,22 @@ def case_a_silent_name_holds_up_nobody():
         for place in (0, 10, 20):
             with Timed() as server:
                 names = with_one(place, "never.test", ["fast.test"] * 20)
-                run = Run(["--workers", workers, "--timeout-ms", "3000"] + urls(server, names))
+                run = Run(["--workers", workers, "--timeout-ms", "6000"] + urls(server, names))
                 want_ends(run, [(28, 0, b"") if name == "never.test" else (0, 200, body_of(f"/{number}")) for number, name in enumerate(names)])
                 last = max(server.times.values())
                 print(f"    {workers} workers, the silent one at {place}: {run.seconds:.2f} s, the last request after {last:.3f} s")
                 want(run.seconds < 30, f"it took {run.seconds:.2f} s")
-                want(workers == "1" or last < 2, f"the last good request came after {last:.2f} s")
+                want(workers == "1" or last < 5, f"the last good request came after {last:.2f} s")
 
 
 def case_many_silent_names_hold_up_nobody():
     with Timed() as server:
         names = [f"n{number}.never.test" for number in range(62)] + ["fast.test"] * 20
-        run = Run(["--workers", "4", "--timeout-ms", "3000"] + urls(server, names))
+        run = Run(["--workers", "4", "--timeout-ms", "6000"] + urls(server, names))
         want(run.codes() == [28] * 62 + [0] * 20, f"codes {run.codes()}")
         last = max(server.times.values())
         print(f"    62 silent names before 20: {run.seconds:.2f} s, the last request after {last:.3f} s")
-        want(run.seconds < 30 and last < 2, f"it took {run.seconds:.2f} s, and the last good request came after {last:.2f} s")
+        want(run.seconds < 30 and last < 5, f"it took {run.seconds:.2f} s, and the last good request came after {last:.2f} s")
 
 
 def case_slow_names_are_looked_up_side_by_side():

@@ -16,9 +16,13 @@ done
 if [ -z "${PROGRAM:-}" ]; then
     PROGRAM=$("$top/run" --which)
 fi
-work=$(mktemp -d)
+# in memory, where there is such a folder: what a check before this one wrote may keep a disk busy for a minute
+memory=/dev/shm
+[ -d "$memory" ] && [ -w "$memory" ] || memory=${TMPDIR:-/tmp}
+work=$(mktemp -d -p "$memory")
 trap 'rm -rf "$work"' EXIT
-echo 'nameserver 127.0.0.1' > "$work/resolv.conf"
+# a question whose answer is lost is asked again soon, and a silent name is given up after ten seconds, as the C library does by itself
+printf 'nameserver 127.0.0.1\noptions timeout:2 attempts:5\n' > "$work/resolv.conf"
 printf '127.0.0.1 localhost\n::1 localhost\n' > "$work/hosts"
 echo 'hosts: files dns' > "$work/nsswitch.conf"
 export PROGRAM WORK=$work TOP=$top
