@@ -18,6 +18,7 @@ use crate::outcomes::is_ok;
 use mx_exchange::{Exchange, Hop, ReadBuffer, Turned, Want};
 use mx_link::Link;
 use mx_request::{Endpoint, Request, RequestError, is_redirect};
+use mx_sink::Window;
 use mx_types::Code;
 use std::alloc::Global;
 use std::marker::Model;
@@ -132,7 +133,7 @@ fn settle_content<L: Link>(
     exchange: &Exchange<L>,
     turned: &Turned,
     before: usize,
-    out: &mut Vec<u8>,
+    out: &mut Window,
 ) -> bool
     requires { hop_turn.IfGoing turned.now (exchange.now.code ≡ None) }
     ensures { SettlesContent most dropped (hop_turn.wire_by exchange.now (hop_turn.how_of turned.now)) before out.old.items out.new.items result }
@@ -576,7 +577,7 @@ impl<L: Link> Chain<L> {
     // rule redirect-content
     /// Takes one turn: at most one probe, 64 reads and 64 writes, all of one hop; where the content is handed on, at most 16 reads. Content
     /// that is handed on is added to `out`: nothing of a response that is held, nor of one whose final head sends its request on.
-    pub fn turn(&mut self, out: &mut Vec<u8>) -> Stepped
+    pub fn turn(&mut self, out: &mut Window) -> Stepped
         requires { self.old.code ≡ None }
         ensures turn { Steps L.history self.old self.new (how_of result) }
         ensures handed { HandsOver self.old.content (content_by self.new (how_of result)) out.old.items out.new.items }

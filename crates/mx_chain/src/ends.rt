@@ -8,7 +8,7 @@ ghost use Rattle.mx_types.specs.declared.code.Code.TheVariants as code;
 use crate::followed::{Hops, heads_of};
 use crate::outcomes::Outcome;
 use mx_exchange::Hop;
-use mx_sink::Delivery;
+use mx_sink::{Delivery, Window};
 use mx_types::Code;
 use std::marker::Model;
 
@@ -103,7 +103,7 @@ impl ChainEnd {
     }
 
     /// What its transfer ended with, by move: with its delivery, and the content that the delivery had no room for, in order.
-    pub fn deliver<D: Delivery>(self, delivery: D, rest: Vec<u8>) -> Outcome<D>
+    pub fn deliver<D: Delivery>(self, delivery: D, rest: Window) -> Outcome<D>
         requires limit { self.last.limit ≡ limit_by (D.flows delivery) }
         requires content { self.content ≡ D.handed delivery ++ rest.items }
         ensures { result ≡ settled (D.fault delivery) self }

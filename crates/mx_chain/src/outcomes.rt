@@ -15,7 +15,7 @@ use crate::followed::{Hops, heads_of};
 use mx_exchange::Hop;
 use mx_reason::Reason;
 use mx_request::Request;
-use mx_sink::{Delivery, Held};
+use mx_sink::{Delivery, Held, Window};
 use mx_types::{Code, Ending, OutOfMemory};
 use std::alloc::Global;
 use std::marker::Model;
@@ -29,7 +29,7 @@ pub struct Outcome<D: Delivery = Held> {
     // The code of its chain.
     pub(crate) code: Code,
     pub(crate) delivery: D,
-    pub(crate) rest: Vec<u8>,
+    pub(crate) rest: Window,
 }
 
 // Written out, and not derived: a crate that drops an outcome cites its proof.
@@ -197,7 +197,7 @@ impl<D: Delivery> Outcome<D> {
     }
 
     /// Its delivery, and the content that it had no room for, in order, by move.
-    pub fn into_delivery(self) -> (D, Vec<u8>)
+    pub fn into_delivery(self) -> (D, Window)
         ensures limit { self.last.limit ≡ limit_by (D.flows result.0) }
         ensures handed { self.content ≡ D.handed result.0 ++ result.1.items }
         ensures sound { self.code ≡ code.Ok → D.fault result.0 ≡ None }

@@ -4,6 +4,7 @@ use crate::replay::{Stop, holds};
 use mx_exchange::{Exchange, Hop, Turned};
 use mx_link::{ScriptLink, ScriptRead};
 use mx_request::{Request, RequestError};
+use mx_sink::Window;
 use mx_types::{Code, Method, Settings};
 use std::alloc::Global;
 
@@ -214,7 +215,7 @@ fn turn(
     if exchange.spent() {
         return Err(Stop::Part("when it ends"));
     }
-    let mut out = Vec::new(alloc);
+    let mut out = Window::new(alloc);
     let turned = exchange.turn(&mut out);
     let is_so = out.as_slice() == handed;
     drop(out);

@@ -6,6 +6,7 @@ use crate::replay::{Stop, holds};
 use mx_chain::{Chain, ChainEnd, Stepped};
 use mx_link::{ScriptLink, ScriptRead};
 use mx_request::{Request, RequestError};
+use mx_sink::Window;
 use mx_types::{Code, Method, Settings};
 use std::alloc::Global;
 
@@ -181,7 +182,7 @@ fn turn(
     if chain.spent() {
         return Err(Stop::Part("when it ends"));
     }
-    let mut out = Vec::new(alloc);
+    let mut out = Window::new(alloc);
     let stepped = chain.turn(&mut out);
     let is_so = out.as_slice() == handed;
     drop(out);

@@ -305,6 +305,69 @@ impl Flow {
         Ok(run.len)
     }
 
+    /// Whether the next bytes are content as they come, so that [`pass`](Flow::pass) is worth a try: the length of the body is known, or it
+    /// ends with the connection. For speed alone.
+    pub fn is_plain(&self) -> bool {
+        match self.framing {
+            Framing::Empty => false,
+            Framing::Counted(_) => self.state == BodyState::More,
+            Framing::Chunked => false,
+            Framing::Close => self.state == BodyState::More,
+        }
+    }
+
+    // Takes bytes of a body whose length is known, if all of them are in it.
+    fn pass_counted(&mut self, piece: &[u8]) -> bool
+        requires going { self.old.state ≡ state.More }
+        requires framing { (n : ℕ) × (self.old.framing ≡ Counted n) }
+        ensures passed { IsTrue result → IsFed self.old self.new (length piece.now) piece.now [] piece.now }
+        ensures same { result ≡ false → self.new ≡ self.old }
+    {
+        if piece.len() as u64 > self.left {
+            return false;
+        }
+        self.left -= piece.len() as u64;
+        if self.left == 0 {
+            self.state = BodyState::Whole;
+        }
+        self.count = count_all(&mut self.came, self.count, piece);
+        true
+    }
+
+    // Takes bytes of a body that ends with the connection, if there is room for all of them.
+    fn pass_close(&mut self, piece: &[u8]) -> bool
+        requires going { self.old.state ≡ state.More }
+        requires framing { self.old.framing ≡ Close }
+        ensures passed { IsTrue result → IsFed self.old self.new (length piece.now) piece.now [] piece.now }
+        ensures same { result ≡ false → self.new ≡ self.old }
+    {
+        if piece.len() as u64 > self.left {
+            return false;
+        }
+        self.left -= piece.len() as u64;
+        self.count = count_all(&mut self.came, self.count, piece);
+        true
+    }
+
+    // rule body-stream-in-pieces
+    /// Takes the next bytes, if all of them are content as they are. Where it answers false it takes none.
+    pub fn pass(&mut self, piece: &[u8]) -> bool
+        ensures passed { IsTrue result → IsFed self.old self.new (length piece.now) piece.now [] piece.now }
+        ensures going { IsTrue result → self.old.state ≡ state.More }
+        ensures same { result ≡ false → self.new ≡ self.old }
+        ensures known { IsFlow self.new }
+        ensures kept { self.new ≡ record self.old { came = self.new.came; state = self.new.state } }
+    {
+        let passed = match (self.state, self.framing) {
+            (BodyState::More, Framing::Counted(_)) => self.pass_counted(piece),
+            (BodyState::More, Framing::Close) => self.pass_close(piece),
+            _ => false,
+        };
+        // proof: the state is that of the bytes
+        let _state = self.state();
+        passed
+    }
+
     // rule body-stream-in-pieces
     /// Takes the next bytes, up to the last one of the body or the one that is refused, and adds the content among them to `out`. It
     /// answers how many it took: all, where more is to come.

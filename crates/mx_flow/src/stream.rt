@@ -1,6 +1,6 @@
 //! A response whose bytes come in pieces.
 
-ghost use Rattle.std.specs.Prelude.{◌≡◌, ◌≢◌, ◌≤◌, [], None, Ok, length, IfOk, IfSome, OnErr};
+ghost use Rattle.std.specs.Prelude.{◌≡◌, ◌≢◌, ◌≤◌, IsTrue, false, [], None, Ok, length, IfOk, IfSome, OnErr};
 ghost use Rattle.mx_body.specs.Decision.{HasStatus, HasLocation, TellsLocation, IsPlaceIn, bytes_at};
 ghost use Rattle.mx_flow.specs.Streams.{limit_of, first_stream, IsStream, IsTaken, IsPrefixOfEach, HasEnd, IsNoneAtEnd, TellsKeeps};
 ghost use Rattle.mx_flow.specs.Stages.{HasKept, HasNoneKept};
@@ -129,6 +129,32 @@ impl Stream {
         }
         let taken = self.take(piece, out)?;
         Ok((self.stand(), taken))
+    }
+
+    /// Whether the next bytes are content as they come, so that [`pass`](Stream::pass) is worth a try. For speed alone.
+    pub fn is_plain(&self) -> bool {
+        match &self.stage {
+            Stage::Body(_, flow) => flow.is_plain(),
+            _ => false,
+        }
+    }
+
+    // rule body-stream-in-pieces
+    /// Takes the next bytes, if all of them are content as they are, as [`feed`](Stream::feed) does, whose caller has them at their place
+    /// already. Where it answers false it takes none.
+    pub fn pass(&mut self, piece: &[u8]) -> bool
+        ensures passed { IsTrue result → IsTaken self.old self.new (length piece.now) piece.now [] piece.now }
+        ensures going { IsTrue result → self.old.stand ≡ stand.More }
+        ensures exact { IsStream self.new }
+        ensures same { result ≡ false → self.new ≡ self.old }
+    {
+        let passed = match &mut self.stage {
+            Stage::Body(_, flow) => flow.pass(piece),
+            _ => false,
+        };
+        // proof: what came is what the state says
+        let _stand = self.stand();
+        passed
     }
 
     // rule body-stream-end

@@ -5,3 +5,4 @@ pub mod LineSteps
 pub mod Steps
 pub mod Serves
 pub mod Sends
+mod Placed

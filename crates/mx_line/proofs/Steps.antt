@@ -4,20 +4,31 @@ use Rattle.mx_types.specs.Method.{is_repeatable}
 use Rattle.mx_types.specs.declared.code.Code.{Code}
 use Rattle.mx_types.specs.declared.code.Code.TheVariants as code
 use Rattle.mx_types.specs.declared.method.Method.{Method}
+use Rattle.mx_body.specs.declared.decoder.Stand.{Stand}
 use Rattle.mx_body.specs.declared.decoder.Stand.TheVariants as stand
 use Rattle.mx_reader.specs.Judgements.{IsUndecidedBy}
 use Rattle.mx_reader.specs.Readers.{ReaderValue, IsReader}
 use Rattle.mx_link.specs.Answers.{is_connect, given, given_by}
+use Rattle.mx_link.specs.Calls.{read_answer}
 use Rattle.mx_link.specs.declared.answers.Answer.{Answer}
 use Rattle.mx_link.specs.declared.answers.Answer.TheVariants as said
+use Rattle.mx_link.specs.declared.answers.Read.{Read}
 use Rattle.mx_line.specs.Order.{is_last}
 use Rattle.mx_line.specs.Endings.{by_bytes, by_end, by_fault, by_memory, HasMore, IsUndecided, MustRetry, code_of, fault_code, is_loss, is_heard}
-use Rattle.mx_line.specs.Calls.{StepsTo, StepSo}
+use Rattle.mx_line.specs.Calls.{StepsAt, StepsTo, StepSo}
 use Rattle.mx_line.specs.Lines.{LineState, IsGoing, IsOver, Grows}
 use Rattle.mx_line.specs.declared.calls.Step.{Step}
 use Rattle.mx_line.specs.declared.calls.Step.TheVariants as step
 use Rattle.mx_line.proofs.Judged.{none_of_none, undecided_by, judged_past}
 use Rattle.mx_line.proofs.Ordered.{given-push, given-same, any-same, same-last}
+
+-- a reader that wasn't fed goes on as it did
+pub going_same : (kind : Method) (answers : List Answer) (was is : ReaderValue) → is ≡ was → IsGoing kind answers was → IsGoing kind answers is
+going_same kind answers was is same g = subst (λ (r : ReaderValue). IsGoing kind answers r) (sym same) g
+
+-- the answer of a read that is known
+pub grows_by : {L : Type 0} (old new : LineState L) (buffer : List ℕ) (read is : Read) → read ≡ is → Grows old new (read_answer read buffer ∷ []) → Grows old new (read_answer is buffer ∷ [])
+grows_by old new buffer read is same grows = subst (λ (r : Read). Grows old new (read_answer r buffer ∷ [])) same grows
 
 -- the result of one answer of a link that is asked on
 module _ (kind : Method) (past : List Answer) (d : ReaderValue) (g : IsGoing kind past d) where
@@ -207,3 +218,9 @@ module _ {L : Type 0} (old new : LineState L) (d : ReaderValue) (g : IsGoing old
             );
           } in
           turn step.Heard (said.Gave piece) to grows (λ e. cc) kept (gone, refl)
+
+      -- as the state of the bytes says that the reader took
+      pub Turn-passed : (s : Stand) (how : Step) → s ≡ to.judgement.stand → StepsAt s how → StepsTo old new how to
+      Turn-passed stand.More how e x = subst (λ (h : Step). StepsTo old new h to) (sym x) (Turn-heard e)
+      Turn-passed stand.Complete how e x = subst (λ (h : Step). StepsTo old new h to) (sym x) (Turn-whole e)
+      Turn-passed (stand.Fault c) how e x = subst (λ (h : Step). StepsTo old new h to) (sym x) (Turn-bad c e)

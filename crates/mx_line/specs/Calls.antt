@@ -1,9 +1,13 @@
 -- What the functions that make one call on a link promise one another.
-use Rattle.std.specs.Prelude.{◌≡◌, ℕ, Bool, true, false, List, [], ◌∷◌, count_by}
+use Rattle.std.specs.Prelude.{◌≡◌, ℕ, Bool, true, false, List, [], ◌∷◌, ◌++◌, count_by}
+use Rattle.mx_types.specs.declared.code.Code.TheVariants as code
 use Rattle.mx_types.specs.declared.method.Method.{Method}
-use Rattle.mx_reader.specs.Readers.{ReaderValue}
+use Rattle.mx_body.specs.declared.decoder.Stand.{Stand}
+use Rattle.mx_body.specs.declared.decoder.Stand.TheVariants as stand
+use Rattle.mx_reader.specs.Readers.{ReaderValue, IsFedBy, IsReader}
 use Rattle.mx_link.specs.Answers.{is_connect, is_read, is_write, is_blocked}
 use Rattle.mx_link.specs.declared.answers.Answer.{Answer}
+use Rattle.mx_link.specs.declared.answers.Answer.TheVariants as said
 use Rattle.mx_link.specs.declared.answers.Write.{Write}
 use Rattle.mx_link.specs.declared.answers.Write.TheVariants as write
 use Rattle.mx_line.specs.Endings.{MustRetry}
@@ -28,6 +32,22 @@ pub record StepsTo {L : Type 0} (old new : LineState L) (how : Step) (r : Reader
   pub unmade : is_connect answer ≡ true → old.stands ≡ false
   pub kept : old.stands ≡ true → new.stands ≡ true
   pub so : StepSo how old.request.method old.is_reused new.stands new.answers r answer
+
+-- a read gave bytes that the reader took as content, and they are behind what was handed on before
+pub record IsPassed {L : Type 0} (old new : LineState L) (from to : ReaderValue) (before after : List ℕ) : Type 0 where
+  pub piece : List ℕ
+  pub grows : Grows old new (said.Gave piece ∷ [])
+  pub more : from.judgement.stand ≡ stand.More
+  pub fed : IsFedBy from to piece
+  pub exact : IsReader to
+  pub handed : to.judgement.content ≡ from.judgement.content ++ piece
+  pub behind : after ≡ before ++ piece
+
+-- what a state of the bytes leads to
+abbrev pub StepsAt : Stand → Step → Type 0
+StepsAt stand.More how = how ≡ step.Heard
+StepsAt stand.Complete how = how ≡ step.Over code.Ok
+StepsAt (stand.Fault c) how = how ≡ step.Over c
 
 -- so many calls were made
 pub record Calls (more : List Answer) (connects reads writes : ℕ) : Type 0 where

@@ -1,9 +1,12 @@
 //! One turn over a link.
-ghost use Rattle.std.specs.Prelude.{◌≡◌, ◌↔◌, IsTrue, true, false, ◌<◌, ◌≤◌, [], length};
+ghost use Rattle.std.specs.Prelude.{◌≡◌, ◌↔◌, ◌∷◌, ◌+◌, IfOk, IfSome, IsTrue, None, OnErr, true, false, ◌<◌, ◌≤◌, [], length};
 ghost use Rattle.mx_types.specs.Method.{is_repeatable};
 ghost use Rattle.mx_line.specs.Order.{most_read};
-ghost use Rattle.mx_line.specs.Calls.{StepsTo};
-ghost use Rattle.mx_line.specs.Lines.{IsLine, IsOpen, IsGoing, ReadsOn, ServesTo};
+ghost use Rattle.mx_line.specs.Calls.{IsPassed, StepsAt, StepsTo};
+ghost use Rattle.mx_line.specs.Lines.{Grows, IsLine, IsOpen, IsGoing, ReadsOn, ServesTo};
+ghost use Rattle.mx_link.specs.Calls.{read_answer, IsReadWithin};
+ghost use Rattle.mx_body.specs.declared.decoder.Stand.TheVariants as stand;
+ghost use Rattle.mx_reader.specs.Readers.{IsFedBy, HandsOn, IsReader};
 
 use crate::buffers::{READ_BYTES, ReadBuffer};
 use crate::lines::Line;
@@ -11,7 +14,8 @@ use mx_body::Stand;
 use mx_link::{Connect, Link, Read, Write};
 use mx_reader::Reader;
 use mx_request::Request;
-use mx_types::{Code, Method};
+use mx_sink::Window;
+use mx_types::{Code, Method, OutOfMemory};
 
 // rule exchange-turn-limits
 /// The most writes in one turn.
@@ -56,6 +60,34 @@ fn may_retry(method: Method, is_reused: bool, reader: &Reader) -> bool
     method.is_repeatable()
 }
 
+// Feeds a piece, whose content goes behind that of the window.
+fn feed(reader: &mut Reader, piece: &[u8], out: &mut Window) -> Result<Stand, OutOfMemory>
+    requires { reader.old.judgement.stand ≡ stand.More }
+    ensures fed { IfOk result (λ _. IsFedBy reader.old reader.new piece.now) }
+    ensures handed { IfOk result (λ _. HandsOn reader.old reader.new out.old.items out.new.items) }
+    ensures stand { IfOk result (λ s. s ≡ reader.new.judgement.stand) }
+    ensures exact { IsReader reader.new }
+    ensures refused { OnErr result ((reader.new ≡ reader.old) × (out.new.items ≡ out.old.items)) }
+{
+    let (mut bytes, len) = out.take_out();
+    bytes.truncate(len);
+    let fed = reader.feed(piece, &mut bytes);
+    let len = bytes.len();
+    out.put_back(bytes, len);
+    fed
+}
+
+// What a reader leads to that was fed bytes.
+fn step_at(reader: &Reader) -> Step
+    ensures { StepsAt reader.now.judgement.stand result }
+{
+    match reader.stand() {
+        Stand::More => Step::Heard,
+        Stand::Complete => Step::Over(Code::Ok),
+        Stand::Fault(code) => Step::Over(code),
+    }
+}
+
 impl<L: Link> Line<L> {
     // rule exchange-connect
     /// Checks whether the connection is made.
@@ -95,13 +127,69 @@ impl<L: Link> Line<L> {
         }
     }
 
+    // Reads to behind the content of the window, for which there is room. `None` where the reader took what came as content, which is in the
+    // window then. Else what came is in the buffer.
+    fn read_behind(
+        &mut self,
+        reader: &mut Reader,
+        buffer: &mut [u8],
+        out: &mut Window,
+    ) -> Option<Read>
+        requires open { IsOpen self.old }
+        requires made { self.old.stands ≡ true }
+        requires sent { self.old.written ≡ length self.old.request.bytes }
+        requires room { length buffer.old ≡ most_read }
+        requires memory { length out.old.items + most_read ≤ out.old.memory }
+        ensures room { length buffer.new ≡ length buffer.old }
+        ensures stands { self.new.stands ≡ self.old.stands }
+        ensures line { IsLine L.history L.asked L.token_of self.new }
+        ensures passed { result ≡ None → IsPassed self.old self.new reader.old reader.new out.old.items out.new.items }
+        ensures grows { IfSome result (λ read. Grows self.old self.new (read_answer read buffer.new ∷ [])) }
+        ensures within { IfSome result (λ read. IsReadWithin read (length buffer.new)) }
+        ensures same { IfSome result (λ _. (reader.new ≡ reader.old) × (out.new.items ≡ out.old.items)) }
+    {
+        let (mut bytes, len) = out.take_out();
+        let read = self.read(&mut bytes[len..len + READ_BYTES]);
+        let Read::Bytes(n) = read else {
+            out.put_back(bytes, len);
+            return Some(read);
+        };
+        if reader.pass(&bytes[len..len + n]) {
+            out.put_back(bytes, len + n);
+            return None;
+        }
+        buffer[..n].copy_from_slice(&bytes[len..len + n]);
+        out.put_back(bytes, len);
+        Some(read)
+    }
+
+    // Reads. `None` where the reader took what came as content, which is in the window then. Else what came is in the buffer.
+    fn read_on(&mut self, reader: &mut Reader, buffer: &mut [u8], out: &mut Window) -> Option<Read>
+        requires open { IsOpen self.old }
+        requires made { self.old.stands ≡ true }
+        requires sent { self.old.written ≡ length self.old.request.bytes }
+        requires room { length buffer.old ≡ most_read }
+        ensures room { length buffer.new ≡ length buffer.old }
+        ensures stands { self.new.stands ≡ self.old.stands }
+        ensures line { IsLine L.history L.asked L.token_of self.new }
+        ensures passed { result ≡ None → IsPassed self.old self.new reader.old reader.new out.old.items out.new.items }
+        ensures grows { IfSome result (λ read. Grows self.old self.new (read_answer read buffer.new ∷ [])) }
+        ensures within { IfSome result (λ read. IsReadWithin read (length buffer.new)) }
+        ensures same { IfSome result (λ _. (reader.new ≡ reader.old) × (out.new.items ≡ out.old.items)) }
+    {
+        if reader.is_plain() && out.make_room(READ_BYTES) {
+            return self.read_behind(reader, buffer, out);
+        }
+        Some(self.read(buffer))
+    }
+
     /// Reads, and feeds what came.
     fn read_step(
         &mut self,
         request: &Request,
         reader: &mut Reader,
         buffer: &mut [u8],
-        out: &mut Vec<u8>,
+        out: &mut Window,
     ) -> Step
         requires open { IsOpen self.old }
         requires going { IsGoing self.old.request.method self.old.answers reader.old }
@@ -114,15 +202,16 @@ impl<L: Link> Line<L> {
         ensures turn { StepsTo self.old self.new result reader.new }
         ensures handed { ReadsOn reader.old reader.new out.old.items out.new.items }
     {
-        match self.read(buffer) {
-            Read::Bytes(n) => match reader.feed(&buffer[..n], out) {
+        match self.read_on(reader, buffer, out) {
+            None => step_at(reader),
+            Some(Read::Bytes(n)) => match feed(reader, &buffer[..n], out) {
                 Ok(Stand::More) => Step::Heard,
                 Ok(Stand::Complete) => Step::Over(Code::Ok),
                 Ok(Stand::Fault(code)) => Step::Over(code),
                 Err(_) => Step::Over(Code::OutOfMemory),
             },
-            Read::WouldBlock => Step::Blocked,
-            Read::End => {
+            Some(Read::WouldBlock) => Step::Blocked,
+            Some(Read::End) => {
                 // Before the reader learns of the end, so that being out of memory can't take the place of a retry.
                 if may_retry(request.method(), self.is_reused(), reader) {
                     return Step::Lost;
@@ -134,7 +223,7 @@ impl<L: Link> Line<L> {
                     Err(_) => Step::Over(Code::OutOfMemory),
                 }
             }
-            Read::Fault => {
+            Some(Read::Fault) => {
                 if may_retry(request.method(), self.is_reused(), reader) {
                     return Step::Lost;
                 }
@@ -149,7 +238,7 @@ impl<L: Link> Line<L> {
         request: &Request,
         reader: &mut Reader,
         buffer: &mut [u8],
-        out: &mut Vec<u8>,
+        out: &mut Window,
     ) -> Step
         requires open { IsOpen self.old }
         requires going { IsGoing self.old.request.method self.old.answers reader.old }
@@ -178,7 +267,7 @@ impl<L: Link> Line<L> {
         reader: &mut Reader,
         most_reads: usize,
         buffer: &mut [u8],
-        out: &mut Vec<u8>,
+        out: &mut Window,
     ) -> Halt
         requires open { IsOpen self.old }
         requires going { IsGoing self.old.request.method self.old.answers reader.old }
@@ -221,7 +310,7 @@ impl<L: Link> Line<L> {
         request: &Request,
         reader: &mut Reader,
         most_reads: usize,
-        out: &mut Vec<u8>,
+        out: &mut Window,
     ) -> Halt
         requires open { IsOpen self.old }
         requires going { IsGoing self.old.request.method self.old.answers reader.old }
@@ -244,7 +333,7 @@ impl<L: Link> Line<L> {
         reader: &mut Reader,
         most_reads: usize,
         kept: &mut ReadBuffer,
-        out: &mut Vec<u8>,
+        out: &mut Window,
     ) -> Halt
         requires open { IsOpen self.old }
         requires going { IsGoing self.old.request.method self.old.answers reader.old }

@@ -1,7 +1,7 @@
 -- What is known of a reader that hands the content on: at first, after a piece, and at the end.
 use Rattle.std.proofs.Common.{◌≡◌, ◌≢◌, ℕ, ◌+◌, ◌-◌, Bool, true, false, nat_eq, List, [], ◌++◌, length, take, drop, refl, sym, ap, subst, ◌∙◌, arith, append_assoc, length-append}
 use Rattle.std.proofs.lemmas.Bool.{eq-eqb, eqb-true}
-use Rattle.std.proofs.lemmas.List.{append-nil, take-append-drop, length-take, length-drop, nil_from_length}
+use Rattle.std.proofs.lemmas.List.{append-nil, take-append-drop, length-take, length-drop, drop_all, nil_from_length}
 use Rattle.std.specs.Prelude.{Some, min}
 use Rattle.mx_types.specs.declared.method.Method.{Method}
 use Rattle.mx_body.specs.declared.decoder.Stand.{Stand}
@@ -80,6 +80,24 @@ module _ (old new : StreamValue) (behind now piece before after : List ℕ) (n :
 
   pub handed_piece : (was at : Stand) (kept : Bool) → IsTaken old new n piece before after → HandsOn (flowing old behind was ended keep) (flowing new now at ended kept) before after
   handed_piece was at kept taken = record { added = taken.added; handed = taken.handed; grown = taken.grown }
+
+-- a piece that is content as it is
+module _ (old new : StreamValue) (behind piece : List ℕ) (ended keep is_all : Bool) (fed next : ℕ) (was at : Stand) (kept : Bool) where
+  none_dropped : behind ≡ behind ++ drop (length piece) piece
+  none_dropped = sym (ap (λ (t : List ℕ). behind ++ t) (drop_all (length piece) piece (omega arith)) ∙ append-nil behind)
+
+  pub passed_so : (by : flow_stand.Stand) → IsFlowing old behind was ended keep is_all fed → was ≡ stand.More → IsStream new
+      → IsTaken old new (length piece) piece [] piece → by ≡ new.stand → KeepsBy new by kept → at ≡ stand_by by
+      → next ≡ min (fed + length piece) most_counted → IsFlowing new behind at ended kept true next
+  passed_so by flow more is taken by_is keeps at_is next_is =
+      subst (λ (all : Bool). IsFlowing new behind at ended kept all next) (eq-eqb (length piece) (length piece) refl)
+      (fed_so old new behind behind piece [] piece (length piece) ended keep is_all fed next was at kept by flow more is taken none_dropped by_is keeps at_is next_is)
+
+  pub passed_piece : IsTaken old new (length piece) piece [] piece → behind ≡ [] → IsFedBy (flowing old behind was ended keep) (flowing new behind at ended kept) piece
+  passed_piece taken none = fed_piece old new behind behind piece [] piece (length piece) ended keep is_all fed next was at kept taken none none_dropped
+
+  pub passed_content : IsTaken old new (length piece) piece [] piece → new.content ≡ old.content ++ piece
+  passed_content taken = taken.grown ∙ ap (λ (t : List ℕ). old.content ++ t) (sym taken.handed)
 
 module _ (s : StreamValue) (behind : List ℕ) (ended keep is_all : Bool) (fed : ℕ) where
   pub ended_so : (was at : Stand) (by : flow_stand.Stand) → IsFlowing s behind was ended keep is_all fed → was ≡ stand.More → IsStream s → HasEnd s by → by ≢ state.More

@@ -1,6 +1,6 @@
 //! A reader that hands the content of a response on as it comes, and keeps the heads.
 
-ghost use Rattle.std.specs.Prelude.{◌≡◌, ◌≢◌, ◌↔◌, ◌++◌, IsTrue, [], true, None, Some, Ok, length, min, IfOk, IfSome, OnErr};
+ghost use Rattle.std.specs.Prelude.{◌≡◌, ◌≢◌, ◌↔◌, ◌++◌, IsTrue, [], true, false, None, Some, Ok, length, min, IfOk, IfSome, OnErr};
 ghost use Rattle.mx_body.specs.Decision.{HasStatus, TellsLocation, IsPlaceIn, bytes_at};
 ghost use Rattle.mx_body.specs.Decoder.{HasVerdictCode};
 ghost use Rattle.mx_body.specs.declared.decoder.Stand.TheVariants as stand;
@@ -153,6 +153,44 @@ impl FlowingReader {
         }
         self.take(piece, out)?;
         Ok(self.stand)
+    }
+
+    pub(crate) fn is_plain(&self) -> bool {
+        self.stream.is_plain()
+    }
+
+    // Takes the next bytes, if all of them are content, where nothing is decided yet.
+    fn pass_open(&mut self, piece: &[u8]) -> bool
+        requires { self.old.judgement.stand ≡ stand.More }
+        ensures fed { IsTrue result → IsFedBy self.old self.new piece.now }
+        ensures handed { IsTrue result → self.new.judgement.content ≡ self.old.judgement.content ++ piece.now }
+        ensures exact { IsReader self.new }
+        ensures same { result ≡ false → self.new ≡ self.old }
+    {
+        if !self.stream.pass(piece) {
+            return false;
+        }
+        let stand = self.stream.stand();
+        self.keep = keeps_by(&self.stream, stand);
+        self.stand = stand_by(stand);
+        self.is_all = true;
+        self.fed = self.fed.saturating_add(piece.len() as u64);
+        true
+    }
+
+    pub(crate) fn pass(&mut self, piece: &[u8]) -> bool
+        ensures fed { IsTrue result → IsFedBy self.old self.new piece.now }
+        ensures handed { IsTrue result → self.new.judgement.content ≡ self.old.judgement.content ++ piece.now }
+        ensures more { IsTrue result → self.old.judgement.stand ≡ stand.More }
+        ensures limited { self.old.limit ≢ None }
+        ensures exact { IsReader self.new }
+        ensures same { result ≡ false → self.new ≡ self.old }
+    {
+        match self.stand {
+            Stand::More => self.pass_open(piece),
+            Stand::Complete => false,
+            Stand::Fault(_) => false,
+        }
     }
 
     pub(crate) fn end(&mut self) -> Stand

@@ -1,6 +1,6 @@
 //! A reader of one response.
 
-ghost use Rattle.std.specs.Prelude.{◌≡◌, ◌≢◌, ◌↔◌, IsTrue, [], true, None, Some, Ok, length, min, IfOk, IfSome, OnErr};
+ghost use Rattle.std.specs.Prelude.{◌≡◌, ◌≢◌, ◌↔◌, ◌++◌, IsTrue, [], true, false, None, Some, Ok, length, min, IfOk, IfSome, OnErr};
 ghost use Rattle.mx_body.specs.Parts.{AreOrdered};
 ghost use Rattle.mx_body.specs.Decision.{HasStatus, TellsLocation, IsPlaceIn, bytes_at, BeginsWithParts};
 ghost use Rattle.mx_body.specs.Decoder.{HasVerdictCode};
@@ -105,6 +105,34 @@ impl Reader {
         match &mut self.kind {
             Kind::Held(decoder) => decoder.feed(piece),
             Kind::Flowing(reader) => reader.feed(piece, out),
+        }
+    }
+
+    /// Whether the next bytes are content that is handed on as it comes, so that [`pass`](Reader::pass) is worth a try. For speed alone.
+    pub fn is_plain(&self) -> bool {
+        match &self.kind {
+            Kind::Held(_) => false,
+            Kind::Flowing(reader) => reader.is_plain(),
+        }
+    }
+
+    /// Takes the next bytes of the response, if all of them are content that is handed on, where its caller has them at their place already.
+    /// Where it answers false it takes none.
+    pub fn pass(&mut self, piece: &[u8]) -> bool
+        ensures fed { IsTrue result → IsFedBy self.old self.new piece.now }
+        ensures handed { IsTrue result → self.new.judgement.content ≡ self.old.judgement.content ++ piece.now }
+        ensures more { IsTrue result → self.old.judgement.stand ≡ stand.More }
+        ensures limited { IsTrue result → self.old.limit ≢ None }
+        ensures exact { IsReader self.new }
+        ensures same { result ≡ false → self.new ≡ self.old }
+    {
+        match &mut self.kind {
+            Kind::Held(decoder) => {
+                // proof: the verdict is that on the bytes
+                let _stand = decoder.stand();
+                false
+            }
+            Kind::Flowing(reader) => reader.pass(piece),
         }
     }
 

@@ -16,7 +16,7 @@ use mx_multi::Limits;
 use mx_reason::Reason;
 use mx_request::Request;
 use mx_run_io::{Options, Stop};
-use mx_sink::{Delivery, Outlet};
+use mx_sink::{Delivery, Outlet, Window};
 use mx_transfer::Outcome;
 use mx_types::Code;
 use std::alloc::AllocGlobal;
@@ -61,8 +61,8 @@ fn room(options: Options) -> Room
 // Writes what its delivery had no room for, if it can. The answer is the sink, and what was not written, in order.
 fn write_rest<W: Write + Drop>(
     outlet: Outlet<WriterSink<W>>,
-    rest: Vec<u8>,
-) -> (WriterSink<W>, Vec<u8>, Vec<u8>)
+    rest: Window,
+) -> (WriterSink<W>, Vec<u8>, Window)
     ensures { handed_of (λ s. s.got) outlet ++ rest.items ≡ result.0.got ++ (result.1.items ++ result.2.items) }
 {
     let mut outlet = outlet;
@@ -107,7 +107,7 @@ fn settle<W: Write + Drop>(outcome: Outcome<Outlet<WriterSink<W>>>) -> BodyEnd<W
     let is_flushed = sink.flush().is_ok();
     // proof: what holds of a sink
     sink.know();
-    let is_all = are_empty(&left, &rest);
+    let is_all = are_empty(&left, rest.as_slice());
     let flushed = told_by(code, is_flushed);
     let told = told_by(flushed, is_all);
     drop(left);

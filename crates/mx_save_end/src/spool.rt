@@ -8,7 +8,7 @@ use mx_chain::Outcome;
 use mx_folder::{Folder, FolderError, PartFile};
 use mx_part_sink::{PartSink, Unfinished};
 use mx_save::Made;
-use mx_sink::{Outlet, Sink};
+use mx_sink::{Outlet, Sink, Window};
 
 /// Where the body of a URL goes as it comes: to a part in the folder.
 pub type Spool<F> = Outlet<PartSink<Made<<F as Folder>::Part>>>;
@@ -39,12 +39,12 @@ fn put_all<P: PartFile>(sink: &mut PartSink<P>, bytes: &[u8]) -> bool
 }
 
 // Hands a sink what its outlet had no room for. The answer is the sink, and whether it has all.
-fn hand_all<P: PartFile>(outlet: Outlet<PartSink<P>>, rest: Vec<u8>) -> (PartSink<P>, bool)
+fn hand_all<P: PartFile>(outlet: Outlet<PartSink<P>>, rest: Window) -> (PartSink<P>, bool)
     ensures all { result.1 ≡ true → got_of result.0 ≡ handed_of got_of outlet ++ rest.items }
     ensures refused { result.1 ≡ false → IsSome result.0.failure }
 {
     let (mut sink, left) = outlet.into_parts();
-    let is_all = put_all(&mut sink, &left) && put_all(&mut sink, &rest);
+    let is_all = put_all(&mut sink, &left) && put_all(&mut sink, rest.as_slice());
     drop(left);
     drop(rest);
     (sink, is_all)

@@ -2,7 +2,7 @@
 ghost use Rattle.std.specs.Prelude.{◌≡◌, ◌<◌, ◌&&◌, [], length, nat_lt, Some, None};
 
 use crate::sink_bodies::{body_of, give, is_same, none_of};
-use mx_sink::{Delivery, Held, MemorySink, Outlet, Sink, SinkError};
+use mx_sink::{Delivery, Held, MemorySink, Outlet, Sink, SinkError, Window};
 use mx_types::OutOfMemory;
 use std::alloc::Global;
 use std::test::Fail;
@@ -236,13 +236,15 @@ fn hand<D: Delivery>(
     requires none_left { D.left outlet.old ≡ [] }
     requires flows { D.flows outlet.old ≡ Some None }
 {
-    let mut content = Vec::new(alloc);
+    let mut content = Window::new(alloc);
     let mut handed = 0;
     let mut paused = false;
     while handed < body.len() {
         let rest = &body[handed..];
         let rest = &rest[..piece.min(rest.len())];
-        content.extend_from_slice(rest)?;
+        let mut bytes = Vec::new(alloc);
+        bytes.extend_from_slice(rest)?;
+        content.put_back(bytes, rest.len());
         outlet.take(&mut content);
         handed += rest.len();
         if !outlet.make_room() {

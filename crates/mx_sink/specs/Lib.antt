@@ -1,3 +1,4 @@
--- What contracts cite: what a sink takes, the codes of its errors, and what is known of an outlet.
+-- What contracts cite: what a sink takes, the codes of its errors, what is known of an outlet, and content on its way to one.
 pub mod Outlets
 pub mod Sinks
+pub mod Windows

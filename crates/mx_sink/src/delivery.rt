@@ -4,6 +4,7 @@ ghost use Rattle.mx_types.specs.declared.code.Code.{Code as OneCode};
 ghost use Rattle.mx_sink.specs.Outlets.{counted};
 ghost use Rattle.mx_sink.specs.Sinks.{is_sink_code};
 
+use crate::window::Window;
 use mx_types::Code;
 
 /// What becomes of the content of a response, so that a transfer can be generic in it: the response is held ([`Held`]), or its content is
@@ -39,7 +40,7 @@ pub trait Delivery: Drop {
 
     /// Takes all of the content, which is empty then. Where the content isn't empty, nothing is left, and the response isn't held. Content
     /// that is empty changes nothing.
-    fn take(&mut self, content: &mut Vec<u8>)
+    fn take(&mut self, content: &mut Window)
         requires clear { (left self.old ≡ []) ⊎ (content.old.items ≡ []) }
         requires flows { flows self.old ≡ None → content.old.items ≡ [] }
         ensures handed { handed self.new ≡ handed self.old ++ content.old.items }
@@ -82,7 +83,7 @@ impl Delivery for Held {
         true
     }
 
-    fn take(&mut self, _content: &mut Vec<u8>) {}
+    fn take(&mut self, _content: &mut Window) {}
 
     fn count(&self) -> u64 {
         0

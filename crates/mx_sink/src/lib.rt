@@ -6,9 +6,11 @@ mod error;
 mod memory;
 mod outlet;
 mod sink;
+mod window;
 
 pub use crate::delivery::{Delivery, Held};
 pub use crate::error::SinkError;
 pub use crate::memory::MemorySink;
 pub use crate::outlet::Outlet;
 pub use crate::sink::Sink;
+pub use crate::window::Window;

@@ -1,11 +1,12 @@
 //! A sink, and the content that it has had no room for yet.
-ghost use Rattle.std.specs.Prelude.{◌≡◌, ◌≤◌, ◌<◌, ◌⊎◌, ◌↔◌, false, [], ◌++◌, drop, length, take, Some, None, IfSome, IsTrue, option_map, vec_capacity};
+ghost use Rattle.std.specs.Prelude.{◌≡◌, ◌≤◌, ◌<◌, ◌⊎◌, ◌↔◌, false, [], ◌++◌, drop, length, take, Some, None, IfSome, IsTrue, option_map};
 ghost use Rattle.mx_sink.specs.Sinks.{sink_code};
 ghost use Rattle.mx_sink.specs.Outlets.{IsOutlet, IsReady, IsHandedOn, counted, handed_of};
 
 use crate::delivery::Delivery;
 use crate::error::SinkError;
 use crate::sink::Sink;
+use crate::window::Window;
 use mx_types::Code;
 use std::alloc::Global;
 use std::marker::Model;
@@ -47,7 +48,7 @@ fn remove_front(bytes: &mut Vec<u8>, count: usize)
 /// more.
 pub struct Outlet<S: Sink> {
     sink: S,
-    left: Vec<u8>,
+    left: Window,
     // How many bytes of `left` the sink has taken.
     start: usize,
     failure: Option<SinkError>,
@@ -106,7 +107,7 @@ impl<S: Sink> Outlet<S> {
     {
         Outlet {
             sink,
-            left: Vec::new(alloc),
+            left: Window::new(alloc),
             start: 0,
             failure: None,
             count: 0,
@@ -125,7 +126,7 @@ impl<S: Sink> Outlet<S> {
     pub fn left(&self) -> &[u8]
         ensures { result.now ≡ self.now.left }
     {
-        &self.left[self.start..]
+        &self.left.as_slice()[self.start..]
     }
 
     /// Why the sink failed, if it did.
@@ -142,14 +143,15 @@ impl<S: Sink> Outlet<S> {
     {
         let Outlet {
             sink,
-            mut left,
+            left,
             start,
             failure: _,
             count: _,
             most_bytes: _,
         } = self;
-        remove_front(&mut left, start);
-        (sink, left)
+        let mut rest = left.into_bytes();
+        remove_front(&mut rest, start);
+        (sink, rest)
     }
 
     /// What holds of every outlet. It does nothing: a call gives its caller's proof the law.
@@ -168,7 +170,7 @@ impl<S: Sink> Outlet<S> {
         ensures target { S.target self.new.sink ≡ S.target self.old.sink }
         ensures same { self.new ≡ record self.old { sink = self.new.sink; left = self.new.left; failure = self.new.failure } }
     {
-        let (taken, failure) = put_all(&mut self.sink, &self.left[self.start..]);
+        let (taken, failure) = put_all(&mut self.sink, &self.left.as_slice()[self.start..]);
         self.failure = failure;
         self.start += taken;
     }
@@ -206,9 +208,9 @@ impl<S: Sink> Delivery for Outlet<S> {
         self.failure.is_none() && self.start == self.left.len() && self.sink.has_room()
     }
 
-    /// Takes all of the content, which is empty then: hands the sink as much of it as that takes, and keeps the rest. Where there is none,
-    /// the content keeps its capacity.
-    fn take(&mut self, content: &mut Vec<u8>)
+    /// Takes all of the content, which is empty then: hands the sink as much of it as that takes, and keeps the rest. Where none is
+    /// left, the content keeps its memory.
+    fn take(&mut self, content: &mut Window)
         requires { (self.old.left ≡ []) ⊎ (content.old.items ≡ []) }
         ensures handed { handed_of S.got self.new ≡ handed_of S.got self.old ++ content.old.items }
         ensures empty { content.new.items ≡ [] }
@@ -217,7 +219,7 @@ impl<S: Sink> Delivery for Outlet<S> {
         ensures target { S.target self.new.sink ≡ S.target self.old.sink }
         ensures most_bytes { self.new.most_bytes ≡ self.old.most_bytes }
         ensures failed { IfSome self.old.failure (λ _. self.new ≡ self.old) }
-        ensures memory { self.new.left ≡ [] → vec_capacity content.new ≡ vec_capacity content.old }
+        ensures memory { self.new.left ≡ [] → content.new.memory ≡ content.old.memory }
     {
         if content.is_empty() {
             return;

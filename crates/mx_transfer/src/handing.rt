@@ -4,12 +4,12 @@ ghost use Rattle.mx_chain.specs.Outcomes.{EndsAs};
 ghost use Rattle.mx_transfer.specs.Deliveries.{IsHandedTo};
 
 use mx_chain::{ChainEnd, Outcome};
-use mx_sink::Delivery;
+use mx_sink::{Delivery, Window};
 use std::alloc::Global;
 use std::mem;
 
 /// Hands the delivery what is there, where it has room.
-pub(crate) fn hand_on<D: Delivery>(delivery: &mut D, rest: &mut Vec<u8>)
+pub(crate) fn hand_on<D: Delivery>(delivery: &mut D, rest: &mut Window)
     requires { D.flows delivery.old ≡ None → rest.old.items ≡ [] }
     ensures all { D.handed delivery.new ++ rest.new.items ≡ D.handed delivery.old ++ rest.old.items }
     ensures rest { D.flows delivery.new ≡ None → rest.new.items ≡ [] }
@@ -25,7 +25,7 @@ pub(crate) fn end_of<D: Delivery>(
     alloc: Global,
     end: ChainEnd,
     delivery: Option<D>,
-    rest: &mut Vec<u8>,
+    rest: &mut Window,
 ) -> Outcome<D>
     requires { IsHandedTo D.flows D.handed end.last.limit end.content delivery rest.old.items }
     ensures { EndsAs end result }
@@ -35,7 +35,7 @@ pub(crate) fn end_of<D: Delivery>(
     };
     // proof: which failures there are
     let _failure = delivery.fault();
-    let mut left = Vec::new(alloc);
+    let mut left = Window::new(alloc);
     if !rest.is_empty() {
         mem::swap(&mut left, rest);
     }

@@ -12,7 +12,7 @@ use futures::task::{Context, Poll, Source, Waker};
 use mx_chain::{Chain, Outcome, ReadBuffer, Stepped, Want};
 use mx_link::Link;
 use mx_request::{Endpoint, Request};
-use mx_sink::{Delivery, Held};
+use mx_sink::{Delivery, Held, Window};
 use mx_types::{Code, Work};
 use std::alloc::Global;
 use std::marker::Model;
@@ -25,7 +25,7 @@ pub struct Transfer<L: Link, D: Delivery = Held> {
     // There until it has ended.
     delivery: Option<D>,
     // The content that came since the delivery last had room, in order.
-    rest: Vec<u8>,
+    rest: Window,
     link_source: Source,
     time_source: Source,
     // Of the task that polls it, for both sources.
@@ -133,7 +133,7 @@ impl<L: Link, D: Delivery> Transfer<L, D> {
             alloc,
             chain,
             delivery: Some(delivery),
-            rest: Vec::new(alloc),
+            rest: Window::new(alloc),
             link_source: Source::new(),
             time_source: Source::new(),
             waker: None,
@@ -209,7 +209,7 @@ impl<L: Link, D: Delivery> Transfer<L, D> {
 
     /// Gives the memory of the content, and takes this one in its place, as who lends one does before a poll and after it. Both are empty.
     /// Where the delivery had no room for content that came, it stays.
-    pub fn swap_window(&mut self, other: &mut Vec<u8>)
+    pub fn swap_window(&mut self, other: &mut Window)
         requires { other.old.items ≡ [] }
         ensures same { self.new ≡ self.old }
         ensures empty { other.new.items ≡ [] }

@@ -3,7 +3,7 @@ ghost use Rattle.std.specs.Prelude.{◌≡◌};
 
 use mx_chain::ReadBuffer;
 use mx_link::Link;
-use mx_sink::Delivery;
+use mx_sink::{Delivery, Window};
 use mx_transfer::Transfer;
 use std::alloc::Global;
 use std::marker::Model;
@@ -13,7 +13,7 @@ use std::marker::Model;
 #[derive(Drop)]
 pub(crate) struct Lent {
     buffer: ReadBuffer,
-    window: Vec<u8>,
+    window: Window,
 }
 
 impl Model for Lent {
@@ -30,7 +30,7 @@ impl Lent {
     pub fn new(alloc: Global) -> Lent {
         Lent {
             buffer: ReadBuffer::new(alloc),
-            window: Vec::new(alloc),
+            window: Window::new(alloc),
         }
     }
 

@@ -10,6 +10,7 @@ use crate::hops::Hop;
 use mx_line::{Halt, ReadBuffer};
 use mx_link::Link;
 use mx_request::Request;
+use mx_sink::Window;
 use mx_types::Code;
 use std::mem;
 use std::snapshot::Snapshot;
@@ -154,7 +155,7 @@ impl<L: Link> Exchange<L> {
 
     // rule exchange-kept-link
     // Asks the link, if there is one, with this buffer for its reads.
-    fn exchange(&mut self, live: Live<L>, buffer: &mut ReadBuffer, out: &mut Vec<u8>) -> Turned
+    fn exchange(&mut self, live: Live<L>, buffer: &mut ReadBuffer, out: &mut Window) -> Turned
         requires live { IsAlive L.history L.asked L.token_of self.old.request self.old.limit self.old.needs_fresh self.old.failure live }
         requires probed { (alive self.old live).needs_probe ≡ false }
         ensures turn { Exchanged L.history (alive self.old live) self.new (how_of result) }
@@ -218,7 +219,7 @@ impl<L: Link> Exchange<L> {
     }
 
     // The same, with the buffer that it has.
-    fn exchange_buffered(&mut self, live: Live<L>, out: &mut Vec<u8>) -> Turned
+    fn exchange_buffered(&mut self, live: Live<L>, out: &mut Window) -> Turned
         requires live { IsAlive L.history L.asked L.token_of self.old.request self.old.limit self.old.needs_fresh self.old.failure live }
         requires probed { (alive self.old live).needs_probe ≡ false }
         ensures turn { Exchanged L.history (alive self.old live) self.new (how_of result) }
@@ -256,7 +257,7 @@ impl<L: Link> Exchange<L> {
     }
 
     // Probes the link, and asks it. Where there is none, it is left as it is.
-    fn touch(&mut self, out: &mut Vec<u8>) -> Turned
+    fn touch(&mut self, out: &mut Window) -> Turned
         requires going { self.old.code ≡ None }
         requires may { MayTouch self.old }
         ensures turn { Turns L.history self.old self.new (how_of result) }
@@ -294,7 +295,7 @@ impl<L: Link> Exchange<L> {
 
     // rule exchange-order
     // Takes one turn.
-    fn advance(&mut self, out: &mut Vec<u8>) -> Turned
+    fn advance(&mut self, out: &mut Window) -> Turned
         requires { self.old.code ≡ None }
         ensures turn { Turns L.history (clocked self.old) self.new (how_of result) }
         ensures handed { HandsOver self.old.content (content_by self.new (how_of result)) out.old.items out.new.items }
@@ -313,7 +314,7 @@ impl<L: Link> Exchange<L> {
 
     /// Takes one turn: at most one probe, 64 reads and 64 writes; where the content is handed on, at most 16 reads. Content that is handed on
     /// is added to `out`; of a response that is held none is.
-    pub fn turn(&mut self, out: &mut Vec<u8>) -> Turned
+    pub fn turn(&mut self, out: &mut Window) -> Turned
         requires { self.old.code ≡ None }
         ensures turn { Turns L.history (clocked self.old) self.new (how_of result) }
         ensures handed { HandsOver self.old.content (content_by self.new (how_of result)) out.old.items out.new.items }

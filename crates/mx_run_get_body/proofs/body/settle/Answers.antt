@@ -20,14 +20,14 @@ returns-clause-written g c =
     c.told_by-flushed.ensures.is was.code (λ e. where_failed _ c.flush.result (sym c.is_ok-is_flushed.ensures.value ∙ e) c.flush.ensures.failed)
     (λ e none.
     let both = none_both left rest none in
-    let all = c.are_empty-is_all.ensures.1 (ap length c.deref.ensures.value ∙ both.0, ap length c.deref-2.ensures.value ∙ both.1) in
+    let all = c.are_empty-is_all.ensures.1 (ap length c.deref.ensures.value ∙ both.0, ap length c.as_slice.ensures ∙ both.1) in
     let bad : true ≡ false = sym all ∙ e in
     cc) in
     subst (λ (v : OutcomeValue). IsWritten g.W.Write.contents o.request v told s) (sym c.of-about.ensures)
     (written g.W.Write.contents o told s (left ++ rest) c.know_end.ensures.end (λ ok. was.body (was.code ∙ ok)) (λ ok. was.handed (was.code ∙ ok)) is all
     (λ ok.
     let none = c.are_empty-is_all.ensures.0 (c.told_by-told.ensures.all ok) in
-    both_none left rest (ap length (sym c.deref.ensures.value) ∙ none.0) (ap length (sym c.deref-2.ensures.value) ∙ none.1))
+    both_none left rest (ap length (sym c.deref.ensures.value) ∙ none.0) (ap length (sym c.as_slice.ensures) ∙ none.1))
     (λ ok.
     let well = c.told_by-flushed.ensures.all (was_ok told flushed c.told_by-told.ensures.is ok) in
     where_ok _ c.flush.result (sym c.is_ok-is_flushed.ensures.value ∙ well) c.flush.ensures.flushed)

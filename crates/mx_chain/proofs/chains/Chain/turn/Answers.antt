@@ -64,56 +64,56 @@ pub invariant_of-self : goal.invariant_of-self
 invariant_of-self g c =
     let none = rw (← c.self.view_is) at c.requires in
     let p = passes_by g.L.Link.history g.L.Link.asked g.L.Link.token_of c.self.inside.exchange _ hop.waits _ _ _ _ _ _ _ _ c.know.ensures (c.self.invariant.chain.going.0 none) (c.self.invariant.chain.handed none)
-    (rw c.in-Waits.is at c.turn-turned.ensures.turn) (rw c.in-Waits.is at c.turn-turned.ensures.handed) (ap (λ (l : List ℕ). length l) c.as_slice-before.ensures.value) c.self.invariant.most (rw c.in-Waits.is at c.settle_content-self-inside.ensures) in
+    (rw c.in-Waits.is at c.turn-turned.ensures.turn) (rw c.in-Waits.is at c.turn-turned.ensures.handed) (ap (λ (l : List ℕ). length l) c.as_slice-before.ensures) c.self.invariant.most (rw c.in-Waits.is at c.settle_content-self-inside.ensures) in
     record { most = c.self.invariant.most; chain = turned_chain _ _ _ c.self.invariant.chain none (rw c.in-Waits.is at c.turn-turned.ensures.again) (rw c.in-Waits.is at c.turn-turned.ensures.same) c.turn-turned.ensures.limit.0 p.0 }
 
 pub returns-in-Waits-clause-handed : goal.returns-in-Waits-clause-handed
 returns-in-Waits-clause-handed g c =
     let none = rw (← c.self.view_is) at c.requires in
     let p = passes_by g.L.Link.history g.L.Link.asked g.L.Link.token_of c.self.inside.exchange _ hop.waits _ _ _ _ _ _ _ _ c.know.ensures (c.self.invariant.chain.going.0 none) (c.self.invariant.chain.handed none)
-    (rw c.in-Waits.is at c.turn-turned.ensures.turn) (rw c.in-Waits.is at c.turn-turned.ensures.handed) (ap (λ (l : List ℕ). length l) c.as_slice-before.ensures.value) c.self.invariant.most (rw c.in-Waits.is at c.settle_content-self-inside.ensures) in
+    (rw c.in-Waits.is at c.turn-turned.ensures.turn) (rw c.in-Waits.is at c.turn-turned.ensures.handed) (ap (λ (l : List ℕ). length l) c.as_slice-before.ensures) c.self.invariant.most (rw c.in-Waits.is at c.settle_content-self-inside.ensures) in
     rw (← c.self.view_is) p.1
 
 pub returns-in-Waits-clause-known : goal.returns-in-Waits-clause-known
 returns-in-Waits-clause-known g c =
     let none = rw (← c.self.view_is) at c.requires in
     let p = passes_by g.L.Link.history g.L.Link.asked g.L.Link.token_of c.self.inside.exchange _ hop.waits _ _ _ _ _ _ _ _ c.know.ensures (c.self.invariant.chain.going.0 none) (c.self.invariant.chain.handed none)
-    (rw c.in-Waits.is at c.turn-turned.ensures.turn) (rw c.in-Waits.is at c.turn-turned.ensures.handed) (ap (λ (l : List ℕ). length l) c.as_slice-before.ensures.value) c.self.invariant.most (rw c.in-Waits.is at c.settle_content-self-inside.ensures) in
+    (rw c.in-Waits.is at c.turn-turned.ensures.turn) (rw c.in-Waits.is at c.turn-turned.ensures.handed) (ap (λ (l : List ℕ). length l) c.as_slice-before.ensures) c.self.invariant.most (rw c.in-Waits.is at c.settle_content-self-inside.ensures) in
     turned_chain _ _ _ c.self.invariant.chain none (rw c.in-Waits.is at c.turn-turned.ensures.again) (rw c.in-Waits.is at c.turn-turned.ensures.same) c.turn-turned.ensures.limit.0 p.0
 
 pub invariant_of-self-in-Asks : goal.invariant_of-self-in-Asks
 invariant_of-self-in-Asks g c =
     let none = rw (← c.self.view_is) at c.requires in
     let p = passes_by g.L.Link.history g.L.Link.asked g.L.Link.token_of c.self.inside.exchange _ hop.asks _ _ _ _ _ _ _ _ c.know.ensures (c.self.invariant.chain.going.0 none) (c.self.invariant.chain.handed none)
-    (rw c.in-Asks.is at c.turn-turned.ensures.turn) (rw c.in-Asks.is at c.turn-turned.ensures.handed) (ap (λ (l : List ℕ). length l) c.as_slice-before.ensures.value) c.self.invariant.most (rw c.in-Asks.is at c.settle_content-self-inside.ensures) in
+    (rw c.in-Asks.is at c.turn-turned.ensures.turn) (rw c.in-Asks.is at c.turn-turned.ensures.handed) (ap (λ (l : List ℕ). length l) c.as_slice-before.ensures) c.self.invariant.most (rw c.in-Asks.is at c.settle_content-self-inside.ensures) in
     record { most = c.self.invariant.most; chain = turned_chain _ _ _ c.self.invariant.chain none (rw c.in-Asks.is at c.turn-turned.ensures.again) (rw c.in-Asks.is at c.turn-turned.ensures.same) c.turn-turned.ensures.limit.0 p.0 }
 
 pub returns-in-Asks-clause-handed : goal.returns-in-Asks-clause-handed
 returns-in-Asks-clause-handed g c =
     let none = rw (← c.self.view_is) at c.requires in
     let p = passes_by g.L.Link.history g.L.Link.asked g.L.Link.token_of c.self.inside.exchange _ hop.asks _ _ _ _ _ _ _ _ c.know.ensures (c.self.invariant.chain.going.0 none) (c.self.invariant.chain.handed none)
-    (rw c.in-Asks.is at c.turn-turned.ensures.turn) (rw c.in-Asks.is at c.turn-turned.ensures.handed) (ap (λ (l : List ℕ). length l) c.as_slice-before.ensures.value) c.self.invariant.most (rw c.in-Asks.is at c.settle_content-self-inside.ensures) in
+    (rw c.in-Asks.is at c.turn-turned.ensures.turn) (rw c.in-Asks.is at c.turn-turned.ensures.handed) (ap (λ (l : List ℕ). length l) c.as_slice-before.ensures) c.self.invariant.most (rw c.in-Asks.is at c.settle_content-self-inside.ensures) in
     rw (← c.self.view_is) p.1
 
 pub returns-in-Asks-clause-known : goal.returns-in-Asks-clause-known
 returns-in-Asks-clause-known g c =
     let none = rw (← c.self.view_is) at c.requires in
     let p = passes_by g.L.Link.history g.L.Link.asked g.L.Link.token_of c.self.inside.exchange _ hop.asks _ _ _ _ _ _ _ _ c.know.ensures (c.self.invariant.chain.going.0 none) (c.self.invariant.chain.handed none)
-    (rw c.in-Asks.is at c.turn-turned.ensures.turn) (rw c.in-Asks.is at c.turn-turned.ensures.handed) (ap (λ (l : List ℕ). length l) c.as_slice-before.ensures.value) c.self.invariant.most (rw c.in-Asks.is at c.settle_content-self-inside.ensures) in
+    (rw c.in-Asks.is at c.turn-turned.ensures.turn) (rw c.in-Asks.is at c.turn-turned.ensures.handed) (ap (λ (l : List ℕ). length l) c.as_slice-before.ensures) c.self.invariant.most (rw c.in-Asks.is at c.settle_content-self-inside.ensures) in
     turned_chain _ _ _ c.self.invariant.chain none (rw c.in-Asks.is at c.turn-turned.ensures.again) (rw c.in-Asks.is at c.turn-turned.ensures.same) c.turn-turned.ensures.limit.0 p.0
 
 pub returns-in-Ended-clause-handed : goal.returns-in-Ended-clause-handed
 returns-in-Ended-clause-handed g c =
     let none = rw (← c.self.view_is) at c.requires in
     let p = passes_by g.L.Link.history g.L.Link.asked g.L.Link.token_of c.self.inside.exchange _ (hop.ends c.in-Ended.hop) _ _ _ _ _ _ _ _ c.know.ensures (c.self.invariant.chain.going.0 none) (c.self.invariant.chain.handed none)
-    (rw c.in-Ended.is at c.turn-turned.ensures.turn) (rw c.in-Ended.is at c.turn-turned.ensures.handed) (ap (λ (l : List ℕ). length l) c.as_slice-before.ensures.value) c.self.invariant.most (rw c.in-Ended.is at c.settle_content-self-inside.ensures) in
+    (rw c.in-Ended.is at c.turn-turned.ensures.turn) (rw c.in-Ended.is at c.turn-turned.ensures.handed) (ap (λ (l : List ℕ). length l) c.as_slice-before.ensures) c.self.invariant.most (rw c.in-Ended.is at c.settle_content-self-inside.ensures) in
     let request = rw c.in-Ended.is at c.turn-turned.ensures.value in
     let leads = subst (λ (r : RequestValue). LeadTo c.self.inside.about.value.settings.max_redirects c.self.inside.about.value c.self.inside.hops.all r) (sym request) (c.self.invariant.chain.leads none) in
     rw (← c.self.view_is) (over_to _ _ _ _ _ (goes_content _ _ _ _ _ leads c.go_on-stepped.ensures.goes ∙ sym (passed_is _ _ _ (rw c.in-Ended.is at c.turn-turned.ensures.outcome) p.0)) p.1)
 
 pub returns-in-Ended-clause-held : goal.returns-in-Ended-clause-held
 returns-in-Ended-clause-held g c none =
-    held_same _ _ _ _ _ (ap (λ (l : List ℕ). length l) c.as_slice-before.ensures.value) (c.turn-turned.ensures.held (rw (← c.self.view_is) at none)) c.settle_content-self-inside.ensures.rest
+    held_same _ _ _ _ _ (ap (λ (l : List ℕ). length l) c.as_slice-before.ensures) (c.turn-turned.ensures.held (rw (← c.self.view_is) at none)) c.settle_content-self-inside.ensures.rest
 
 pub returns-in-Ended-clause-limit : goal.returns-in-Ended-clause-limit
 returns-in-Ended-clause-limit g c =

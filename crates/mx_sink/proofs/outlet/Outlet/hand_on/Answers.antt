@@ -8,5 +8,5 @@ pub returns-clause-handed : goal.returns-clause-handed
 returns-clause-handed g c =
     let got = g.S.Sink.got in
     handed_on (got c.self.inside.sink) c.self.inside.left.items c.self.inside.start c.put_all-taken.result.0 _ (got c.put_all-taken.new.sink) c.put_all-taken.ensures.got
-    (take_rest c.deref.result.now c.self.inside.start ∙ ap (drop c.self.inside.start) c.deref.ensures.value)
+    (take_rest c.as_slice.result.now c.self.inside.start ∙ ap (drop c.self.inside.start) c.as_slice.ensures)
     ∙ ap (handed_of got) c.self.view_is
