@@ -305,8 +305,8 @@ impl Flow {
         Ok(run.len)
     }
 
-    /// Whether the next bytes are content as they come, so that [`pass`](Flow::pass) is worth a try: the length of the body is known, or it
-    /// ends with the connection. For speed alone.
+    /// A guess, for speed alone, which no contract rests on: whether [`pass`](Flow::pass) is worth a try, since the length of the body is
+    /// known, or it ends with the connection.
     pub fn is_plain(&self) -> bool {
         match self.framing {
             Framing::Empty => false,
@@ -350,7 +350,8 @@ impl Flow {
     }
 
     // rule body-stream-in-pieces
-    /// Takes the next bytes, if all of them are content as they are. Where it answers false it takes none.
+    /// Takes the next bytes, all of which are content as they are then, or answers false and takes none; then [`feed`](Flow::feed) takes them.
+    /// It may answer false of any bytes.
     pub fn pass(&mut self, piece: &[u8]) -> bool
         ensures passed { IsTrue result → IsFed self.old self.new (length piece.now) piece.now [] piece.now }
         ensures going { IsTrue result → self.old.state ≡ state.More }

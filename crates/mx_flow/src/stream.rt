@@ -131,7 +131,7 @@ impl Stream {
         Ok((self.stand(), taken))
     }
 
-    /// Whether the next bytes are content as they come, so that [`pass`](Stream::pass) is worth a try. For speed alone.
+    /// A guess, for speed alone, which no contract rests on: whether [`pass`](Stream::pass) is worth a try.
     pub fn is_plain(&self) -> bool {
         match &self.stage {
             Stage::Body(_, flow) => flow.is_plain(),
@@ -140,8 +140,8 @@ impl Stream {
     }
 
     // rule body-stream-in-pieces
-    /// Takes the next bytes, if all of them are content as they are, as [`feed`](Stream::feed) does, whose caller has them at their place
-    /// already. Where it answers false it takes none.
+    /// Takes the next bytes as [`feed`](Stream::feed) does, for a caller that has them at their place already: all of them are content as they
+    /// are then. Or it answers false, which it may of any bytes, and takes none.
     pub fn pass(&mut self, piece: &[u8]) -> bool
         ensures passed { IsTrue result → IsTaken self.old self.new (length piece.now) piece.now [] piece.now }
         ensures going { IsTrue result → self.old.stand ≡ stand.More }

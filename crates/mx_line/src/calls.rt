@@ -177,7 +177,7 @@ impl<L: Link> Line<L> {
         ensures within { IfSome result (λ read. IsReadWithin read (length buffer.new)) }
         ensures same { IfSome result (λ _. (reader.new ≡ reader.old) × (out.new.items ≡ out.old.items)) }
     {
-        if reader.is_plain() && out.make_room(READ_BYTES) {
+        if reader.is_plain() && out.reserve(READ_BYTES) {
             return self.read_behind(reader, buffer, out);
         }
         Some(self.read(buffer))

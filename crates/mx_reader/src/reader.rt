@@ -108,7 +108,7 @@ impl Reader {
         }
     }
 
-    /// Whether the next bytes are content that is handed on as it comes, so that [`pass`](Reader::pass) is worth a try. For speed alone.
+    /// A guess, for speed alone, which no contract rests on: whether [`pass`](Reader::pass) is worth a try.
     pub fn is_plain(&self) -> bool {
         match &self.kind {
             Kind::Held(_) => false,
@@ -116,8 +116,8 @@ impl Reader {
         }
     }
 
-    /// Takes the next bytes of the response, if all of them are content that is handed on, where its caller has them at their place already.
-    /// Where it answers false it takes none.
+    /// Takes the next bytes of the response for a caller that has them at their place already: all of them are content that is handed on
+    /// then. Or it answers false, which it may of any bytes, and takes none.
     pub fn pass(&mut self, piece: &[u8]) -> bool
         ensures fed { IsTrue result → IsFedBy self.old self.new piece.now }
         ensures handed { IsTrue result → self.new.judgement.content ≡ self.old.judgement.content ++ piece.now }

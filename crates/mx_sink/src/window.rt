@@ -89,7 +89,7 @@ impl Window {
     }
 
     /// Sees that behind the content there are so many bytes of memory. False where memory for them is refused.
-    pub fn make_room(&mut self, count: usize) -> bool
+    pub fn reserve(&mut self, count: usize) -> bool
         ensures same { self.new.items ≡ self.old.items }
         ensures room { IsTrue result → length self.new.items + count ≤ self.new.memory }
     {
@@ -99,8 +99,9 @@ impl Window {
         }
     }
 
-    /// Takes out its memory, and how many bytes of that are content. [`put_back`](Window::put_back) puts it back.
+    /// Takes out its memory, and how many bytes of that are content, and leaves neither. [`put_back`](Window::put_back) puts it back.
     pub fn take_out(&mut self) -> (Vec<u8>, usize)
+        ensures empty { (self.new.items ≡ []) × (self.new.memory ≡ 0) }
         ensures content { take result.1 result.0.items ≡ self.old.items }
         ensures within { result.1 ≤ length result.0.items }
         ensures memory { length result.0.items ≡ self.old.memory }
