@@ -1,3 +1,4 @@
+mod BookSteps
 mod Books
 mod Calls
 mod Fails

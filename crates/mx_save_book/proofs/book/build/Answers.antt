@@ -1,4 +1,4 @@
-use Rattle.mx_save_book.proofs.Books.{can_ask, can_refuse}
+use Rattle.mx_save_book.proofs.BookSteps.{can_ask, can_refuse}
 use Rattle.mx_save_book.proofs.book.build.Goals as goal
 
 pub returns-in-Ok-clause-can : goal.returns-in-Ok-clause-can

@@ -1,4 +1,4 @@
-use Rattle.mx_save_book.proofs.Books.{left_or}
+use Rattle.mx_save_book.proofs.BookSteps.{left_or}
 use Rattle.mx_save_book.proofs.book.discard.Goals as goal
 
 pub returns-clause-left : goal.returns-clause-left

@@ -1,6 +1,6 @@
 use Rattle.std.proofs.Common.{◌≡◌, ◌∙◌, ap, sym, true, false}
 use Rattle.std.specs.Prelude.{Ok}
-use Rattle.mx_save_book.proofs.Books.{found_by_look, kind_same, look_later, looks_in_vain, no_kind}
+use Rattle.mx_save_book.proofs.BookSteps.{found_by_look, kind_same, look_later, looks_in_vain, no_kind}
 use Rattle.mx_save_book.proofs.book.is_there.Goals as goal
 
 pub returns-in-Ok-clause-found : goal.returns-in-Ok-clause-found

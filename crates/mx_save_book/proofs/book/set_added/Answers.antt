@@ -1,6 +1,6 @@
 use Rattle.std.proofs.Common.{refl}
 use Rattle.mx_save_book.specs.declared.job.Slot.TheVariants as slot
-use Rattle.mx_save_book.proofs.Books.{open_is, set_again}
+use Rattle.mx_save_book.proofs.BookSteps.{open_is, set_again}
 use Rattle.mx_save_book.proofs.book.set_added.Goals as goal
 
 pub returns : goal.returns

@@ -1,7 +1,7 @@
 use Rattle.std.proofs.Common.{◌∙◌, ap, sym}
 use Rattle.std.specs.Prelude.{slice_get}
 use Rattle.mx_save_book.specs.declared.job.Slot.TheVariants as slot
-use Rattle.mx_save_book.proofs.Books.{get_set, set_again}
+use Rattle.mx_save_book.proofs.BookSteps.{get_set, set_again}
 use Rattle.mx_save_book.proofs.book.set_open.Goals as goal
 
 pub returns : goal.returns

@@ -1,7 +1,7 @@
 use Rattle.std.proofs.Common.{◌∙◌, ap, sym}
 use Rattle.std.specs.Prelude.{slice_set}
 use Rattle.mx_save_book.specs.declared.job.Slot.TheVariants as slot
-use Rattle.mx_save_book.proofs.Books.{set_again}
+use Rattle.mx_save_book.proofs.BookSteps.{set_again}
 use Rattle.mx_save_book.proofs.book.set_waiting.Goals as goal
 
 pub returns : goal.returns

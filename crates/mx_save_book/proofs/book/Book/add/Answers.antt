@@ -3,7 +3,8 @@ use Rattle.std.specs.Prelude.{Some}
 use Rattle.mx_save_book.specs.Books.{HasOpen, IsAdded}
 use Rattle.mx_save_book.specs.Jobs.{AreOut, IsBook, job_at}
 use Rattle.mx_save_book.specs.declared.job.Slot.TheVariants as slot
-use Rattle.mx_save_book.proofs.Books.{again, job_here}
+use Rattle.mx_save_book.proofs.Books.{again}
+use Rattle.mx_save_book.proofs.BookSteps.{job_here}
 use Rattle.mx_save_book.proofs.Parts.{stays}
 use Rattle.mx_save_book.proofs.book.Book.add.Goals as goal
 

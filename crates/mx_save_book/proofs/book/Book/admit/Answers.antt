@@ -1,5 +1,6 @@
 use Rattle.std.proofs.Common.{◌∙◌, ap, refl, map, [], ◌∷◌}
-use Rattle.mx_save_book.proofs.Books.{refused_now, stopped_more, texts_push}
+use Rattle.mx_save_book.proofs.Books.{stopped_more}
+use Rattle.mx_save_book.proofs.BookSteps.{refused_now, texts_push}
 use Rattle.mx_save_book.proofs.book.Book.admit.Goals as goal
 
 pub invariant_of-self : goal.invariant_of-self

@@ -5,7 +5,7 @@ use Rattle.mx_save.specs.Ledgers.{LedgerValue}
 use Rattle.mx_save.specs.Tries.{IsRefusedBy}
 use Rattle.mx_save_book.specs.Books.{HasEndedUnmade, IsUnmadeNow, LeavesSlot, TellsNone, Waits}
 use Rattle.mx_save_book.specs.Jobs.{BookValue}
-use Rattle.mx_save_book.proofs.Books.{account_later, account_opened}
+use Rattle.mx_save_book.proofs.BookSteps.{account_later, account_opened}
 use Rattle.mx_save_book.proofs.book.Book.begin.Goals as goal
 
 pub set_open-requires : goal.set_open-requires

@@ -3,7 +3,8 @@ use Rattle.std.specs.Prelude.{None, slice_set}
 use Rattle.mx_save_book.specs.Books.{IsAwaited, IsEndedBy, Retries, WaitsAgain, next_job, next_try}
 use Rattle.mx_save_book.specs.Jobs.{AreOut, AreWhole, BookValue, IsBook}
 use Rattle.mx_save_book.specs.declared.job.Slot.TheVariants as slot
-use Rattle.mx_save_book.proofs.Books.{account, back_again, closed, grows_by, handed_back, holds_by, came_again, delay_retried, leaves_waiting, out_job, retried, retry_tries, set_again, still_within, stopped_later, whatever}
+use Rattle.mx_save_book.proofs.Books.{account, closed, grows_by, holds_by, stopped_later}
+use Rattle.mx_save_book.proofs.BookSteps.{back_again, handed_back, came_again, delay_retried, leaves_waiting, out_job, retried, retry_tries, set_again, still_within, whatever}
 use Rattle.mx_save_book.proofs.Names.{whole_on}
 use Rattle.mx_save_book.proofs.Parts.{came_back, is_out}
 use Rattle.mx_save_book.proofs.book.Book.close.Goals as goal

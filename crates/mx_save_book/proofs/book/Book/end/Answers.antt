@@ -1,4 +1,4 @@
-use Rattle.mx_save_book.proofs.Books.{ended_of, none_out_of, told_of, whole_of}
+use Rattle.mx_save_book.proofs.BookSteps.{ended_of, none_out_of, told_of, whole_of}
 use Rattle.mx_save_book.proofs.book.Book.end.Goals as goal
 
 pub returns-clause-told : goal.returns-clause-told

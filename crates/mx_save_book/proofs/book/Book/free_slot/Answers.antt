@@ -1,7 +1,7 @@
 use Rattle.std.proofs.Common.{◌∙◌, ◌+◌, ap, refl, sym, arith}
 use Rattle.std.specs.Prelude.{Some, slice_get}
 use Rattle.mx_save_book.specs.declared.job.Slot.TheVariants as slot
-use Rattle.mx_save_book.proofs.Books.{free_of, placed, slot_within, taken_more}
+use Rattle.mx_save_book.proofs.BookSteps.{free_of, placed, slot_within, taken_more}
 use Rattle.mx_save_book.proofs.book.Book.free_slot.Goals as goal
 
 pub loop-slot-preserved : goal.loop-slot-preserved

@@ -1,5 +1,5 @@
 use Rattle.std.proofs.Common.{◌≡◌}
-use Rattle.mx_save_book.proofs.Books.{FirstTaken}
+use Rattle.mx_save_book.proofs.BookSteps.{FirstTaken}
 use Rattle.mx_save_book.proofs.book.Book.free_slot.Given as goal
 
 abbrev pub invariant-loop-slot : goal.invariant-loop-slot

@@ -1,6 +1,6 @@
 use Rattle.std.proofs.Common.{◌∙◌, ap, refl, sym, arith}
 use Rattle.std.specs.Prelude.{slice_get}
-use Rattle.mx_save_book.proofs.Books.{placed, slot_within, some_added, unadded_more}
+use Rattle.mx_save_book.proofs.BookSteps.{placed, slot_within, some_added, unadded_more}
 use Rattle.mx_save_book.proofs.book.Book.has_none_added.Goals as goal
 
 pub loop-slot-preserved : goal.loop-slot-preserved

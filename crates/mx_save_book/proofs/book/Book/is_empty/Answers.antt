@@ -1,7 +1,7 @@
 use Rattle.std.proofs.Common.{◌≡◌, ◌∙◌, ap, refl, sym, arith}
 use Rattle.std.specs.Prelude.{Some, slice_get}
 use Rattle.mx_save_book.specs.Jobs.{job_at}
-use Rattle.mx_save_book.proofs.Books.{job_within, none_more, none_taken, placed, some_taken}
+use Rattle.mx_save_book.proofs.BookSteps.{job_within, none_more, none_taken, placed, some_taken}
 use Rattle.mx_save_book.proofs.book.Book.is_empty.Goals as goal
 
 pub loop-slot-preserved : goal.loop-slot-preserved

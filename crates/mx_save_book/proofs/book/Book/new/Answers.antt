@@ -1,7 +1,8 @@
 use Rattle.std.proofs.Common.{◌≡◌, ap, false, map}
 use Rattle.std.proofs.lemmas.List.Elements.{recursion_from_All}
 use Rattle.mx_save_book.specs.declared.job.Slot.TheVariants as slot
-use Rattle.mx_save_book.proofs.Books.{account, begun, none_whole}
+use Rattle.mx_save_book.proofs.Books.{account, begun}
+use Rattle.mx_save_book.proofs.BookSteps.{none_whole}
 use Rattle.mx_save_book.proofs.Parts.{begins}
 use Rattle.mx_save_book.proofs.book.Book.new.Goals as goal
 

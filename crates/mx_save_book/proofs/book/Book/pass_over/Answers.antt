@@ -2,7 +2,8 @@ use Rattle.std.proofs.Common.{◌∙◌, ap, sym, refl, inl, false, subst, map, 
 use Rattle.mx_save_book.specs.Books.{IsFoundAt, IsSkippedNow}
 use Rattle.mx_save_book.specs.Jobs.{AreOut, BookValue, IsBook, MayName, is_saved}
 use Rattle.mx_save_book.specs.declared.job.Slot.TheVariants as slot
-use Rattle.mx_save_book.proofs.Books.{account, closed, found_here, same_ledger, stopped_later}
+use Rattle.mx_save_book.proofs.Books.{account, closed, same_ledger, stopped_later}
+use Rattle.mx_save_book.proofs.BookSteps.{found_here}
 use Rattle.mx_save_book.proofs.Holds.{skipped_holds}
 use Rattle.mx_save_book.proofs.Parts.{stays}
 use Rattle.mx_save_book.proofs.book.Book.pass_over.Goals as goal

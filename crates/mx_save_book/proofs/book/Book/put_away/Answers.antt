@@ -2,7 +2,8 @@ use Rattle.std.proofs.Common.{◌∙◌, ap, false, refl, sym, subst, inl, []}
 use Rattle.mx_save_book.specs.Books.{HasOpen, WaitsOn}
 use Rattle.mx_save_book.specs.Jobs.{AreOut, AreWhole}
 use Rattle.mx_save_book.specs.declared.job.Slot.TheVariants as slot
-use Rattle.mx_save_book.proofs.Books.{account, back_again, out_job, set_again, still_within, stopped_later}
+use Rattle.mx_save_book.proofs.Books.{account, stopped_later}
+use Rattle.mx_save_book.proofs.BookSteps.{back_again, out_job, set_again, still_within}
 use Rattle.mx_save_book.proofs.Parts.{came_back, is_out}
 use Rattle.mx_save_book.proofs.book.Book.put_away.Goals as goal
 

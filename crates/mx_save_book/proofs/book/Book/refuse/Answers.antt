@@ -1,7 +1,8 @@
 use Rattle.std.proofs.Common.{◌∙◌, ap, refl, false, sym, subst, map, [], ◌∷◌, ◌++◌}
 use Rattle.mx_save_book.specs.Books.{IsRefusedNow}
 use Rattle.mx_save_book.specs.Jobs.{BookValue, Refuses, refused_end}
-use Rattle.mx_save_book.proofs.Books.{account, refused_as, stopped_more, texts_push}
+use Rattle.mx_save_book.proofs.Books.{account, refused_as, stopped_more}
+use Rattle.mx_save_book.proofs.BookSteps.{texts_push}
 use Rattle.mx_save_book.proofs.book.Book.refuse.Goals as goal
 
 pub invariant_of-self : goal.invariant_of-self

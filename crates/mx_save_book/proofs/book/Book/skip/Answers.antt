@@ -1,6 +1,6 @@
 use Rattle.std.proofs.Common.{subst}
 use Rattle.mx_save_book.specs.Books.{IsFoundAt, IsSkippedNow}
-use Rattle.mx_save_book.proofs.Books.{account_later}
+use Rattle.mx_save_book.proofs.BookSteps.{account_later}
 use Rattle.mx_save_book.proofs.book.Book.skip.Goals as goal
 
 pub invariant_of-self : goal.invariant_of-self

@@ -4,7 +4,8 @@ use Rattle.mx_file_name.specs.Names.{base_name, count_of, numbered}
 use Rattle.mx_save_book.specs.Jobs.{CanAsk}
 use Rattle.mx_save_book.specs.declared.job.Job.{Job}
 use Rattle.mx_save_book.specs.declared.job.Slot.TheVariants as slot
-use Rattle.mx_save_book.proofs.Books.{account, get_set, stood_as, stopped_more, texts_push}
+use Rattle.mx_save_book.proofs.Books.{account, stood_as, stopped_more}
+use Rattle.mx_save_book.proofs.BookSteps.{get_set, texts_push}
 use Rattle.mx_save_book.proofs.Parts.{stays}
 use Rattle.mx_save_book.proofs.book.Book.stand.Goals as goal
 

@@ -6,7 +6,8 @@ use Rattle.mx_save.specs.declared.error.SaveError.TheVariants as errors
 use Rattle.mx_save_book.specs.Books.{IsUnmadeNow, Waits, next_job}
 use Rattle.mx_save_book.specs.Jobs.{AreOut, HasRefused, BookValue, IsBook, MayName, is_saved, told_refusals}
 use Rattle.mx_save_book.specs.declared.job.Slot.TheVariants as slot
-use Rattle.mx_save_book.proofs.Books.{account, again, closed, is_none_so, retry_tries, same_ledger, unmade_is}
+use Rattle.mx_save_book.proofs.Books.{account, again, closed, same_ledger}
+use Rattle.mx_save_book.proofs.BookSteps.{is_none_so, retry_tries, unmade_is}
 use Rattle.mx_save_book.proofs.Holds.{unmade}
 use Rattle.mx_save_book.proofs.Parts.{stays}
 use Rattle.mx_save_book.proofs.book.Book.unmade.Goals as goal
