@@ -1,6 +1,6 @@
 //! Deadlines, by scripts of calls.
 
-use mx_clock::Deadlines;
+use mx_turn::Deadlines;
 use mx_types::Ticket;
 
 /// A call of deadlines, and what it answers.

@@ -1,5 +1,6 @@
 pub mod Idle
 pub mod IdleLaws
+pub mod InOrder
 pub mod Laws
 pub mod Supplies
 pub mod Turn

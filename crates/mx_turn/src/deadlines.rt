@@ -13,7 +13,7 @@ pub struct Deadline {
 }
 
 impl Deadline {
-    ghost use Rattle.mx_clock.specs.InOrder.{is_before};
+    ghost use Rattle.mx_turn.specs.InOrder.{is_before};
 
     /// Whether this deadline comes first: an earlier moment does, and of one moment the lower ticket.
     pub fn is_before(&self, other: &Deadline) -> bool
@@ -34,8 +34,8 @@ pub struct Deadlines {
 impl Model for Deadlines {
     ghost use Rattle.std.specs.Prelude.{List, length, ◌≤◌};
     ghost use Rattle.mx_types.specs.Limits.{most_transfers};
-    ghost use Rattle.mx_clock.specs.declared.deadlines.Deadline.{Deadline as OneDeadline};
-    ghost use Rattle.mx_clock.specs.InOrder.{IsInOrder};
+    ghost use Rattle.mx_turn.specs.declared.deadlines.Deadline.{Deadline as OneDeadline};
+    ghost use Rattle.mx_turn.specs.InOrder.{IsInOrder};
 
     ghost Value = { List OneDeadline };
 
@@ -45,7 +45,7 @@ impl Model for Deadlines {
 }
 
 impl Deadlines {
-    ghost use Rattle.mx_clock.specs.InOrder.{IsInOrder, Sets, is_before, is_other, others, due_at, not_due_at};
+    ghost use Rattle.mx_turn.specs.InOrder.{IsInOrder, Sets, is_before, is_other, others, due_at, not_due_at};
 
     /// No deadline.
     pub fn new() -> Deadlines

@@ -1,5 +1,5 @@
 use Rattle.std.proofs.Common.{rules}
-use Rattle.mx_clock.proofs.deadlines.Deadline.is_before.Goals as goal
+use Rattle.mx_turn.proofs.deadlines.Deadline.is_before.Goals as goal
 
 pub returns-then-self-other-2 : goal.returns-then-self-other-2
 returns-then-self-other-2 c = search rules

@@ -5,8 +5,8 @@ use Rattle.std.proofs.lemmas.Bool.Decides.{nat_tests}
 use Rattle.std.proofs.lemmas.List.Elements.{filter_passes, recursion_from_All}
 use Rattle.std.proofs.lemmas.List.{length-map, length-take}
 use Rattle.std.proofs.lemmas.List.Sums.{sum_by-cons, length-filter, count_by-le-length}
-use Rattle.mx_clock.specs.declared.deadlines.Deadline.{Deadline}
-use Rattle.mx_clock.specs.InOrder.{is_before, Precedes, IsInOrder, is_other, others, is_due, due_at}
+use Rattle.mx_turn.specs.declared.deadlines.Deadline.{Deadline}
+use Rattle.mx_turn.specs.InOrder.{is_before, Precedes, IsInOrder, is_other, others, is_due, due_at}
 
 pub is_before-trans : (d e f : Deadline) → is_before d e ≡ true → is_before e f ≡ true → is_before d f ≡ true
 is_before-trans d e f de ef = grind (arith, nat_tests)

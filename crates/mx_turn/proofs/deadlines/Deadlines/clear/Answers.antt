@@ -1,8 +1,8 @@
 use Rattle.std.proofs.Common.{rules, sym, ap, ◌∙◌, subst, arith}
 use Rattle.arrayvec.proofs.ArrayVecLemmas.{filter-from_retain}
-use Rattle.mx_clock.specs.InOrder.{IsInOrder, is_other, others}
-use Rattle.mx_clock.proofs.Order.{IsInOrder-filter}
-use Rattle.mx_clock.proofs.deadlines.Deadlines.clear.Goals as goal
+use Rattle.mx_turn.specs.InOrder.{IsInOrder, is_other, others}
+use Rattle.mx_turn.proofs.Order.{IsInOrder-filter}
+use Rattle.mx_turn.proofs.deadlines.Deadlines.clear.Goals as goal
 
 pub invariant_of-self : goal.invariant_of-self
 invariant_of-self c =

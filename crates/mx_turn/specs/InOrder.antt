@@ -2,7 +2,7 @@
 use Rattle.std.specs.Prelude.{◌≡◌, ℕ, ◌==◌, nat_lt, nat_le, not, ◌&&◌, ◌||◌, Bool, true, false, List, [], ◌∷◌, ◌++◌}
 use Rattle.std.specs.List.{AllByRecursion, filter}
 use Rattle.mx_types.specs.declared.names.Ticket.{Ticket}
-use Rattle.mx_clock.specs.declared.deadlines.Deadline.{Deadline}
+use Rattle.mx_turn.specs.declared.deadlines.Deadline.{Deadline}
 
 -- an earlier moment comes first, and of one moment the lower ticket
 abbrev pub is_before : Deadline → Deadline → Bool

@@ -3,10 +3,10 @@ use Rattle.std.specs.List.{count_by}
 use Rattle.std.proofs.lemmas.List.Sums.{count_by-le-length}
 use Rattle.std.proofs.lemmas.Grind.{common_steps}
 use Rattle.mx_types.specs.Limits.{most_transfers}
-use Rattle.mx_clock.specs.declared.deadlines.Deadline.{Deadline}
-use Rattle.mx_clock.specs.InOrder.{is_before}
-use Rattle.mx_clock.proofs.Order.{set-in_order, others-few}
-use Rattle.mx_clock.proofs.deadlines.Deadlines.set.Goals as goal
+use Rattle.mx_turn.specs.declared.deadlines.Deadline.{Deadline}
+use Rattle.mx_turn.specs.InOrder.{is_before}
+use Rattle.mx_turn.proofs.Order.{set-in_order, others-few}
+use Rattle.mx_turn.proofs.deadlines.Deadlines.set.Goals as goal
 
 pub insert-requires : goal.insert-requires
 insert-requires c =

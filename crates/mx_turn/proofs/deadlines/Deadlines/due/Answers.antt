@@ -1,10 +1,10 @@
 use Rattle.std.proofs.Common.{◌≤◌, length, rules, sym, ap, ◌∙◌, subst, arith, not}
 use Rattle.std.proofs.lemmas.Grind.{common_steps}
 use Rattle.arrayvec.proofs.ArrayVecLemmas.{filter-from_retain}
-use Rattle.mx_clock.specs.declared.deadlines.Deadline.{Deadline}
-use Rattle.mx_clock.specs.InOrder.{IsInOrder, is_due, not_due_at}
-use Rattle.mx_clock.proofs.Order.{IsInOrder-filter, due-length}
-use Rattle.mx_clock.proofs.deadlines.Deadlines.due.Goals as goal
+use Rattle.mx_turn.specs.declared.deadlines.Deadline.{Deadline}
+use Rattle.mx_turn.specs.InOrder.{IsInOrder, is_due, not_due_at}
+use Rattle.mx_turn.proofs.Order.{IsInOrder-filter, due-length}
+use Rattle.mx_turn.proofs.deadlines.Deadlines.due.Goals as goal
 
 pub push-requires : goal.push-requires
 push-requires c =
