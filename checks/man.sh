@@ -171,7 +171,7 @@ for name, limits in {
         ("more than {}.", "mx_request/src/request.rt", "MOST_BODY"),
     ),
     "LISTS OF URLS": (("more than {} bytes", "mx_url_list/src/entry.rt", "MOST_LINE"),),
-    "NAMES OF FILES": (("at most {} bytes", "mx_file_name/src/names.rt", "MOST_LEN"),),
+    "NAMES OF FILES": (("at most {} bytes", "mx_folder/src/names.rt", "MOST_LEN"),),
     "RETRIES": (("At most {} URLs", "mx_save_urls/src/plan.rt", "MOST_PENDING"),),
 }.items():
     there = " ".join(section(name).split())

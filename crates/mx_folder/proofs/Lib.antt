@@ -1,2 +1,6 @@
-pub mod Told
+pub mod Apart
+pub mod Bytes
+pub mod Counting
+pub mod Segment
 pub mod Sends
+pub mod Told

@@ -3,16 +3,23 @@
 
 mod errors;
 mod folders;
+pub mod laws;
 mod limit;
 mod log;
 mod memory;
+mod names;
 mod past;
+mod paths;
+mod run;
 mod steps;
 mod system;
 
 pub use crate::errors::FolderError;
 pub use crate::folders::{Folder, PartFile, Unplaced};
 pub use crate::memory::{MemoryFolder, MemoryPart};
+pub use crate::names::{FileName, PartName, file_name, part_name};
 pub use crate::past::{Past, bytes_of};
+pub use crate::paths::path_of;
+pub use crate::run::Names;
 pub use crate::steps::{FolderCall, Kind, Step};
 pub use crate::system::{SystemFolder, SystemPart};

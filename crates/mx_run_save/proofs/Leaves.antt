@@ -6,7 +6,7 @@ use Rattle.std.proofs.lemmas.List.Elements.{All-contains, All-from_recursion}
 use Rattle.mx_chain.specs.Outcomes.{OutcomeValue}
 use Rattle.mx_folder.specs.Moments.{AtEachMoment}
 use Rattle.mx_folder.specs.declared.steps.Step.{Step}
-use Rattle.mx_file_name.specs.Names.{part_of}
+use Rattle.mx_folder.specs.Names.{part_of}
 use Rattle.mx_folder.specs.Steps.{refusals}
 use Rattle.mx_save.specs.Bodies.{Holds, LeavesOnly}
 use Rattle.mx_save.specs.Ledgers.{LedgerValue, HasOnly, IsLedger, RefusedToRemove}

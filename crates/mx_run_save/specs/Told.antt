@@ -2,7 +2,7 @@
 use Rattle.std.specs.Prelude.{◌≡◌, ◌⊎◌, ℕ, ◌+◌, ◌≤◌, Bool, true, List, ◌++◌, length, Option, Some}
 use Rattle.std.specs.List.{Contains}
 use Rattle.mx_chain.specs.Outcomes.{OutcomeValue}
-use Rattle.mx_file_name.specs.Safe.{IsSafeName}
+use Rattle.mx_folder.specs.Safe.{IsSafeName}
 use Rattle.mx_folder.specs.Files.{File, holding, file}
 use Rattle.mx_folder.specs.Moments.{AtEachMoment, MayBeLeft}
 use Rattle.mx_folder.specs.declared.steps.Step.{Step}

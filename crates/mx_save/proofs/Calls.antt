@@ -1,7 +1,7 @@
 -- What calls of a folder leave, one after the other.
 use Rattle.std.proofs.Common.{◌≡◌, ◌≢◌, ℕ, ◌≤◌, ◌<◌, ◌+◌, length, List, [], ◌∷◌, ◌++◌, Result, Bool, Option, Some, None, refl, ap, sym, subst, ◌∙◌, arith}
 use Rattle.std.proofs.lemmas.List.{length-append}
-use Rattle.mx_file_name.specs.Safe.{IsPartName}
+use Rattle.mx_folder.specs.Safe.{IsPartName}
 use Rattle.mx_folder.specs.declared.errors.FolderError.{FolderError}
 use Rattle.mx_folder.specs.declared.steps.FolderCall.{FolderCall}
 use Rattle.mx_folder.specs.declared.steps.FolderCall.TheVariants as call

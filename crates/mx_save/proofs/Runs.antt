@@ -6,8 +6,8 @@ use Rattle.std.proofs.lemmas.List.{length-append}
 use Rattle.std.proofs.lemmas.Bool.{cond-true, cond-false, cases_Bool, eqb-true}
 use Rattle.std.proofs.lemmas.List.Elements.{Contains-append_cases, Contains-append_left, Contains-append_right}
 use Rattle.std.proofs.lemmas.Map.Made.{Contains-tail}
-use Rattle.mx_file_name.specs.Names.{part_of}
-use Rattle.mx_file_name.specs.Safe.{IsSafeName, IsPartName}
+use Rattle.mx_folder.specs.Names.{part_of}
+use Rattle.mx_folder.specs.Safe.{IsSafeName, IsPartName}
 use Rattle.mx_folder.specs.declared.steps.Kind.{Kind}
 use Rattle.mx_folder.specs.declared.steps.Kind.TheVariants as kind
 use Rattle.mx_folder.specs.declared.steps.Step.{Step}

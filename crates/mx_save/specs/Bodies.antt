@@ -4,7 +4,7 @@ use Rattle.std.specs.List.{Contains}
 use Rattle.mx_folder.specs.declared.errors.FolderError.{FolderError}
 use Rattle.mx_folder.specs.declared.steps.Step.{Step}
 use Rattle.mx_folder.specs.Files.{File, holding, file}
-use Rattle.mx_file_name.specs.Safe.{IsSafeName, IsPartName}
+use Rattle.mx_folder.specs.Safe.{IsSafeName, IsPartName}
 
 -- under this name is a file with these bytes and no others, which are all on the disk or aren't known to be
 abbrev pub Holds : List ℕ → List ℕ → Bool → List Step → Type 0

@@ -1,8 +1,8 @@
 -- What holds of every history of a folder, and of every name of a part.
 use Rattle.std.specs.Prelude.{◌≡◌, ◌⊎◌, ℕ, ◌<◌, ◌^◌, true, List, Option}
 use Rattle.std.specs.List.{Contains}
-use Rattle.mx_file_name.specs.Names.{part_of}
-use Rattle.mx_file_name.specs.Safe.{IsSafeName}
+use Rattle.mx_folder.specs.Names.{part_of}
+use Rattle.mx_folder.specs.Safe.{IsSafeName}
 use Rattle.mx_folder.specs.declared.steps.Step.{Step}
 use Rattle.mx_folder.specs.Files.{File}
 use Rattle.mx_folder.specs.Moments.{AtEachMoment, MayBeLeft}

@@ -1,9 +1,9 @@
 -- What holds of a run's saves. Bodies are of any type, of which `content` gives the bytes.
 use Rattle.std.specs.Prelude.{◌≡◌, ◌≢◌, ◌⊎◌, ℕ, ◌+◌, ◌≤◌, Bool, true, false, List, [], ◌∷◌, ◌++◌, length, map, Option, Some, None}
 use Rattle.std.specs.List.{Contains, AllByRecursion}
-use Rattle.mx_file_name.specs.Names.{part_of}
-use Rattle.mx_file_name.specs.Safe.{IsSafeName}
-use Rattle.mx_file_name.specs.Laws.{AreDistinct}
+use Rattle.mx_folder.specs.Names.{part_of}
+use Rattle.mx_folder.specs.Safe.{IsSafeName}
+use Rattle.mx_folder.specs.Laws.{AreDistinct}
 use Rattle.mx_folder.specs.declared.errors.FolderError.{FolderError}
 use Rattle.mx_folder.specs.declared.errors.FolderError.TheVariants as why
 use Rattle.mx_folder.specs.declared.steps.Step.{Step}

@@ -1,7 +1,7 @@
 -- The parts that are out.
 use Rattle.std.specs.Prelude.{◌≡◌, ℕ, List}
 use Rattle.std.specs.List.{AllByRecursion}
-use Rattle.mx_file_name.specs.Names.{part_of}
+use Rattle.mx_folder.specs.Names.{part_of}
 use Rattle.mx_save.specs.declared.parts_out.OutPart.{OutPart}
 
 -- Private: the process for which they are named, and their numbers, the newest first

@@ -1,7 +1,7 @@
 -- What becomes of the parts that are out, where a run removes them all.
 use Rattle.std.specs.Prelude.{◌≡◌, ℕ, List, ◌∷◌, ◌++◌, map, reverse, Option}
 use Rattle.std.specs.List.{flat_map}
-use Rattle.mx_file_name.specs.Names.{part_of}
+use Rattle.mx_folder.specs.Names.{part_of}
 use Rattle.mx_folder.specs.Steps.{refused_calls}
 use Rattle.mx_folder.specs.declared.errors.FolderError.{FolderError}
 use Rattle.mx_save.specs.Bodies.{left_of}

@@ -1,6 +1,6 @@
 -- Which calls of a save the folder refused, and which names were tried for its part.
 use Rattle.std.specs.Prelude.{◌≡◌, ◌≢◌, ℕ, zero, suc, ◌+◌, ◌^◌, ◌%◌, ◌<◌, List, [], ◌∷◌, ◌++◌, Option, Some, None}
-use Rattle.mx_file_name.specs.Names.{part_of}
+use Rattle.mx_folder.specs.Names.{part_of}
 use Rattle.mx_folder.specs.Moments.{IsLater}
 use Rattle.mx_folder.specs.Steps.{refused_calls}
 use Rattle.mx_folder.specs.declared.errors.FolderError.{FolderError}

@@ -5,8 +5,7 @@ ghost use Rattle.mx_save.specs.Ledgers.{is_taken};
 ghost use Rattle.mx_save.specs.Words.{save_words, is_create};
 ghost use Rattle.mx_save.specs.declared.error.SaveError.TheVariants as errors;
 
-use mx_file_name::PartName;
-use mx_folder::FolderError;
+use mx_folder::{PartName, FolderError};
 use std::error::Error;
 use std::fmt;
 

@@ -1,7 +1,7 @@
 //! The saves of a run.
 ghost use Rattle.std.specs.Prelude.{◌≡◌, ◌≢◌, ◌<◌, ◌≤◌, ◌+◌, false, true, [], ◌∷◌, ◌++◌, map, Some, None, IsOk, IsErr, IfOk, IfErr, OnOk, OnErr};
 ghost use Rattle.std.specs.List.{Contains};
-ghost use Rattle.mx_file_name.specs.Names.{part_of};
+ghost use Rattle.mx_folder.specs.Names.{part_of};
 ghost use Rattle.mx_folder.specs.Parts.{empty_part, told_of};
 ghost use Rattle.mx_folder.specs.Steps.{refusals, refused_calls, done, looked};
 ghost use Rattle.mx_folder.specs.Moments.{IsLater};
@@ -19,8 +19,7 @@ use crate::error::{Discarded, PartError, SaveError, Unsaved};
 use crate::made::Made;
 use crate::parts_out::Out;
 use crate::save::{place_part, remove_part};
-use mx_file_name::{FileName, PartName};
-use mx_folder::{Folder, FolderError, Kind, Past};
+use mx_folder::{FileName, PartName, Folder, FolderError, Kind, Past};
 use std::alloc::Global;
 use std::marker::Model;
 use std::snapshot::Snapshot;

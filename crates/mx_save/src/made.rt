@@ -1,12 +1,11 @@
 //! A part that a ledger made.
 ghost use Rattle.std.specs.Prelude.{◌≡◌, ◌<◌, ◌^◌};
 ghost use Rattle.std.specs.List.{Contains};
-ghost use Rattle.mx_file_name.specs.Names.{part_of};
+ghost use Rattle.mx_folder.specs.Names.{part_of};
 ghost use Rattle.mx_save.specs.Made.{without};
 
 use crate::parts_out::Out;
-use mx_file_name::PartName;
-use mx_folder::{FolderError, PartFile};
+use mx_folder::{PartName, FolderError, PartFile};
 use std::marker::Model;
 
 /// A part that a ledger made, whose name has the ledger's process and a number. The ledger gives it its final name, or removes it. A part that
@@ -20,7 +19,7 @@ pub struct Made<P: PartFile> {
 
 impl<P: PartFile> Model for Made<P> {
     ghost use Rattle.std.specs.Prelude.{◌≡◌};
-    ghost use Rattle.mx_file_name.specs.Names.{part_of};
+    ghost use Rattle.mx_folder.specs.Names.{part_of};
     ghost use Rattle.mx_save.specs.Made.{MadeValue};
 
     ghost Value = { MadeValue };

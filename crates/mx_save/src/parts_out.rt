@@ -1,10 +1,10 @@
 //! The parts that are out: they were made, and have been neither kept nor removed.
 ghost use Rattle.std.specs.Prelude.{◌≡◌, ◌≢◌, ℕ, ◌<◌, ◌∷◌, [], length, slice_index, IfSome, IfNone, OnOk, OnErr};
 ghost use Rattle.std.specs.List.{Contains};
-ghost use Rattle.mx_file_name.specs.Names.{part_of};
+ghost use Rattle.mx_folder.specs.Names.{part_of};
 ghost use Rattle.mx_save.specs.Made.{without};
 
-use mx_file_name::{PartName, part_name};
+use mx_folder::{PartName, part_name};
 use mx_types::OutOfMemory;
 use std::alloc::Global;
 use std::collections::VecDeque;

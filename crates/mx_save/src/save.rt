@@ -1,6 +1,6 @@
 //! How a part gets its final name, or is removed.
 ghost use Rattle.std.specs.Prelude.{◌≡◌, ◌≢◌, ◌++◌, ◌∷◌, false, [], None, IfErr, OnOk, OnErr};
-ghost use Rattle.mx_file_name.specs.Safe.{IsPartName};
+ghost use Rattle.mx_folder.specs.Safe.{IsPartName};
 ghost use Rattle.mx_folder.specs.declared.steps.FolderCall.TheVariants as calls;
 ghost use Rattle.mx_folder.specs.Steps.{refused_calls};
 ghost use Rattle.mx_folder.specs.Moments.{AtEachMoment};
@@ -10,8 +10,7 @@ ghost use Rattle.mx_save.specs.declared.error.SaveError.TheVariants as errors;
 ghost use Rattle.mx_save.specs.Tries.{EndsWithRemoval, refusal_of, removal_of, removed_by};
 
 use crate::error::{PartError, SaveError};
-use mx_file_name::FileName;
-use mx_folder::{Folder, FolderError, PartFile};
+use mx_folder::{FileName, Folder, FolderError, PartFile};
 
 // Flushes the part to the disk if `flush` is true.
 fn flush_part<P: PartFile>(part: &mut P, flush: bool) -> Result<(), FolderError>

@@ -7,9 +7,9 @@ use Rattle.std.proofs.lemmas.List.Elements.{Contains-append_left, Contains-appen
 use Rattle.std.proofs.lemmas.List.Sums.{sum_by_push}
 use Rattle.mx_request.specs.declared.error.RequestError.{RequestError}
 use Rattle.mx_chain.specs.Outcomes.{OutcomeValue}
-use Rattle.mx_file_name.specs.Names.{base_name, count_of, names_of, numbered}
-use Rattle.mx_file_name.specs.Laws.{NamesAreDistinct}
-use Rattle.mx_file_name.proofs.Apart.{distinct}
+use Rattle.mx_folder.specs.Names.{base_name, count_of, names_of, numbered}
+use Rattle.mx_folder.specs.Laws.{NamesAreDistinct}
+use Rattle.mx_folder.proofs.Apart.{distinct}
 use Rattle.mx_folder.specs.declared.steps.Kind.TheVariants as kind
 use Rattle.mx_folder.specs.declared.steps.Step.{Step}
 use Rattle.mx_folder.specs.declared.steps.Step.TheVariants as steps

@@ -4,8 +4,8 @@ use Rattle.std.specs.Prelude.{◌⊎◌, slice_index_or}
 use Rattle.std.specs.List.{Contains, AllByRecursion}
 use Rattle.std.proofs.lemmas.List.Elements.{Contains-append_left, Contains-push}
 use Rattle.mx_chain.specs.Outcomes.{OutcomeValue}
-use Rattle.mx_file_name.specs.Names.{base_name, count_of, names_from, names_of, numbered}
-use Rattle.mx_file_name.specs.Laws.{AreDistinct, NamesAreDistinct}
+use Rattle.mx_folder.specs.Names.{base_name, count_of, names_from, names_of, numbered}
+use Rattle.mx_folder.specs.Laws.{AreDistinct, NamesAreDistinct}
 use Rattle.mx_save.specs.Ledgers.{IsFresh}
 use Rattle.mx_save_book.specs.Jobs.{AreWhole, GrowsBy, Saves}
 

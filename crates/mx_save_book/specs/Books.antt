@@ -8,7 +8,7 @@ use Rattle.mx_types.specs.declared.names.Ticket.{Ticket}
 use Rattle.mx_request.specs.Request.{RequestValue}
 use Rattle.mx_request.specs.declared.error.RequestError.{RequestError}
 use Rattle.mx_chain.specs.Outcomes.{OutcomeValue}
-use Rattle.mx_file_name.specs.Names.{part_of}
+use Rattle.mx_folder.specs.Names.{part_of}
 use Rattle.mx_folder.specs.declared.errors.FolderError.{FolderError}
 use Rattle.mx_folder.specs.declared.steps.Kind.{Kind}
 use Rattle.mx_folder.specs.declared.steps.Kind.TheVariants as kind

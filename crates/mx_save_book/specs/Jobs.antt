@@ -8,7 +8,7 @@ use Rattle.mx_request.specs.declared.error.RequestError.{RequestError}
 use Rattle.mx_request.specs.declared.error.RequestError.TheVariants as refusal
 use Rattle.mx_chain.specs.Outcomes.{OutcomeValue, IsEnd as IsTransferEnd, hops_of}
 use Rattle.mx_sink.specs.Sinks.{is_sink_code}
-use Rattle.mx_file_name.specs.Names.{base_name, count_of, names_of, numbered}
+use Rattle.mx_folder.specs.Names.{base_name, count_of, names_of, numbered}
 use Rattle.mx_folder.specs.declared.errors.FolderError.{FolderError}
 use Rattle.mx_folder.specs.declared.steps.FolderCall.TheVariants as call
 use Rattle.mx_folder.specs.declared.steps.Kind.TheVariants as kind

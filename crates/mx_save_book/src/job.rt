@@ -3,7 +3,7 @@ ghost use Rattle.std.specs.Prelude.{◌≡◌, option_copied};
 ghost use Rattle.mx_save_book.specs.Jobs.{is_taken, job_of};
 ghost use Rattle.mx_save_book.specs.Books.{awaits, is_unadded};
 
-use mx_file_name::FileName;
+use mx_folder::FileName;
 use mx_types::Ticket;
 
 /// A URL that has no end yet.

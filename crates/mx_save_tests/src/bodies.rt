@@ -1,6 +1,6 @@
 //! Bodies of pieces, names, and what is compared.
 
-use mx_file_name::{FileName, file_name};
+use mx_folder::{FileName, file_name};
 use mx_types::OutOfMemory;
 use std::alloc::Global;
 use std::test::Fail;

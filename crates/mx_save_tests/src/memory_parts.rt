@@ -6,8 +6,7 @@ use crate::parts::{How, Told, end, give_all, make, words_of};
 use crate::three_parts::{
     Order, Three, is_told, save_one_of_three, save_three, save_two_of_three, three_names,
 };
-use mx_file_name::FileName;
-use mx_folder::{FolderError, MemoryFolder};
+use mx_folder::{FileName, FolderError, MemoryFolder};
 use mx_save::Ledger;
 use mx_types::OutOfMemory;
 use std::alloc::Global;

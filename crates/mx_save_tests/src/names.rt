@@ -1,7 +1,7 @@
 //! The names that URLs give, alone and in a run, and the names of parts.
 
 use crate::bodies::{is_same, none_of};
-use mx_file_name::{FileName, Names, file_name, part_name, path_of};
+use mx_folder::{FileName, Names, file_name, part_name, path_of};
 use mx_types::OutOfMemory;
 use std::alloc::Global;
 use std::test::Fail;

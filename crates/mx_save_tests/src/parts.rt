@@ -5,8 +5,7 @@ ghost use Rattle.mx_folder.specs.declared.steps.FolderCall.TheVariants as calls;
 ghost use Rattle.mx_save.specs.Ledgers.{IsFresh};
 
 use crate::sink_bodies::give;
-use mx_file_name::FileName;
-use mx_folder::{Folder, FolderError, PartFile};
+use mx_folder::{FileName, Folder, FolderError, PartFile};
 use mx_part_sink::{PartSink, Unfinished};
 use mx_save::{Body, Discarded, Ledger, Made, SaveError, Unsaved};
 use mx_sink::Sink;

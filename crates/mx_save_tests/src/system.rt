@@ -3,8 +3,7 @@
 use crate::bodies::{BYE, HELLO, Pieces, is_same, name_of};
 use crate::parts::{How, save_alone};
 use crate::three_parts::{Order, Three, is_told, save_three, three_names};
-use mx_file_name::{FileName, PartName, part_name};
-use mx_folder::{Folder, FolderError, Kind, PartFile, SystemFolder, Unplaced};
+use mx_folder::{FileName, PartName, part_name, Folder, FolderError, Kind, PartFile, SystemFolder, Unplaced};
 use mx_save::{SaveError, Unsaved};
 use mx_types::OutOfMemory;
 use std::alloc::Global;

@@ -1,6 +1,6 @@
 use Rattle.std.proofs.Common.{◌≡◌, ◌++◌, ◌∙◌, ap, refl, subst, sym}
-use Rattle.mx_file_name.specs.Names.{part_of}
-use Rattle.mx_file_name.specs.Safe.{IsPartName}
+use Rattle.mx_folder.specs.Names.{part_of}
+use Rattle.mx_folder.specs.Safe.{IsPartName}
 use Rattle.mx_folder.specs.Files.{file}
 use Rattle.mx_folder.specs.Parts.{told_of}
 use Rattle.mx_save.specs.Bodies.{FilesAreKept, IsOnlyPart}

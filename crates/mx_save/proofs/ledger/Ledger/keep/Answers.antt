@@ -1,6 +1,6 @@
 use Rattle.std.proofs.Common.{◌≡◌, ◌∙◌, ap, arith, subst, sym}
-use Rattle.mx_file_name.specs.Names.{part_of}
-use Rattle.mx_file_name.specs.Safe.{IsPartName}
+use Rattle.mx_folder.specs.Names.{part_of}
+use Rattle.mx_folder.specs.Safe.{IsPartName}
 use Rattle.mx_folder.specs.Files.{file}
 use Rattle.mx_folder.specs.Moments.{AtEachMoment}
 use Rattle.mx_folder.specs.Steps.{refusals}

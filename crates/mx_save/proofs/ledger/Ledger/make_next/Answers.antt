@@ -1,5 +1,5 @@
 use Rattle.std.proofs.Common.{◌≡◌, ◌∷◌, [], ◌∙◌, get_or, ap, arith}
-use Rattle.mx_file_name.specs.Names.{part_of}
+use Rattle.mx_folder.specs.Names.{part_of}
 use Rattle.mx_folder.specs.Steps.{done}
 use Rattle.mx_folder.specs.declared.steps.Step.TheVariants.{Created}
 use Rattle.mx_save.specs.Ledgers.{LedgerValue}

@@ -1,5 +1,5 @@
 use Rattle.std.proofs.Common.{◌≡◌, ◌∙◌, ap, map, subst}
-use Rattle.mx_file_name.specs.Names.{part_of}
+use Rattle.mx_folder.specs.Names.{part_of}
 use Rattle.mx_save.specs.Ledgers.{IsLedger}
 use Rattle.mx_save.specs.Out.{OutValue}
 use Rattle.mx_save.proofs.Sweeps.{removal_is, swept_on}

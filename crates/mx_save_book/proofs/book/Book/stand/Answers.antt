@@ -1,6 +1,6 @@
 use Rattle.std.proofs.Common.{◌∙◌, ap, refl, false, subst, sym, map, ◌++◌, ◌∷◌, []}
 use Rattle.std.specs.Prelude.{slice_get, slice_set}
-use Rattle.mx_file_name.specs.Names.{base_name, count_of, numbered}
+use Rattle.mx_folder.specs.Names.{base_name, count_of, numbered}
 use Rattle.mx_save_book.specs.Jobs.{CanAsk}
 use Rattle.mx_save_book.specs.declared.job.Job.{Job}
 use Rattle.mx_save_book.specs.declared.job.Slot.TheVariants as slot

@@ -1,4 +1,0 @@
-pub mod Bytes
-pub mod Segment
-pub mod Apart
-pub mod Counting
