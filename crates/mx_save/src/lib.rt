@@ -6,10 +6,13 @@ mod error;
 pub mod laws;
 mod ledger;
 mod made;
+mod part_sink;
 mod parts_out;
 mod save;
+mod write;
 
 pub use crate::body::Body;
 pub use crate::error::{Discarded, SaveError, Unsaved};
 pub use crate::ledger::Ledger;
 pub use crate::made::Made;
+pub use crate::part_sink::{PartSink, Unfinished};

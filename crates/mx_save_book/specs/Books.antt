@@ -13,7 +13,7 @@ use Rattle.mx_folder.specs.declared.errors.FolderError.{FolderError}
 use Rattle.mx_folder.specs.declared.steps.Kind.{Kind}
 use Rattle.mx_folder.specs.declared.steps.Kind.TheVariants as kind
 use Rattle.mx_folder.specs.Steps.{looked, refusals}
-use Rattle.mx_part_sink.specs.PartSinks.{PartSinkValue, empty_sink}
+use Rattle.mx_save.specs.PartSinks.{PartSinkValue, empty_sink}
 use Rattle.mx_folder.specs.declared.errors.FolderError.TheVariants as folder
 use Rattle.mx_save.specs.Ledgers.{LedgerValue}
 use Rattle.mx_save.specs.Tries.{AreTried, IsRefusedBy, refusal_of}

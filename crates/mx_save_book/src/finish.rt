@@ -2,7 +2,7 @@
 ghost use Rattle.std.specs.Prelude.{◌≡◌, ◌⊎◌, ◌∷◌, [], true, IfErr, IfOk, IfSome, IsSome, OnErr, OnOk, None};
 ghost use Rattle.std.specs.List.{Contains};
 ghost use Rattle.mx_folder.specs.declared.steps.FolderCall.TheVariants as calls;
-ghost use Rattle.mx_part_sink.specs.PartSinks.{part_with};
+ghost use Rattle.mx_save.specs.PartSinks.{part_with};
 ghost use Rattle.mx_save.specs.Ledgers.{IsFresh};
 ghost use Rattle.mx_save.specs.Made.{without};
 ghost use Rattle.mx_save_end.specs.Bodies.{IsWholeBody};
@@ -14,8 +14,7 @@ ghost use Rattle.mx_save_book.specs.declared.finish.NotEnded.TheVariants as not_
 use crate::job::Job;
 use mx_chain::Outcome;
 use mx_folder::{Folder, FolderError, PartFile};
-use mx_part_sink::PartSink;
-use mx_save::{Ledger, Made};
+use mx_save::{PartSink, Ledger, Made};
 use mx_save_asking::Asking;
 use mx_save_end::{
     Heard, Spool, WholeBody, Written, failed_end, left_end, unsaved_end, written_of,

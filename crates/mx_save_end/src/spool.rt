@@ -1,13 +1,12 @@
 //! Bodies that are written to parts while they come.
 ghost use Rattle.std.specs.Prelude.{◌≡◌, ◌++◌, ◌∷◌, [], false, true, None, IsSome, IfSome};
 ghost use Rattle.mx_folder.specs.declared.steps.FolderCall.TheVariants as calls;
-ghost use Rattle.mx_part_sink.specs.PartSinks.{got_of, part_with};
+ghost use Rattle.mx_save.specs.PartSinks.{got_of, part_with};
 ghost use Rattle.mx_sink.specs.Outlets.{handed_of};
 
 use mx_chain::Outcome;
 use mx_folder::{Folder, FolderError, PartFile};
-use mx_part_sink::{PartSink, Unfinished};
-use mx_save::Made;
+use mx_save::{PartSink, Unfinished, Made};
 use mx_sink::{Outlet, Sink, Window};
 
 /// Where the body of a URL goes as it comes: to a part in the folder.

@@ -2,7 +2,7 @@
 
 use crate::sink_bodies::{body_of, give, is_same, none_of};
 use mx_folder::{FileName, file_name, part_name, Folder, FolderError, MemoryFolder, MemoryPart, Unplaced};
-use mx_part_sink::{PartSink, Unfinished};
+use mx_save::{PartSink, Unfinished};
 use mx_sink::SinkError;
 use mx_types::OutOfMemory;
 use std::alloc::Global;

@@ -4,7 +4,7 @@
 
 use crate::sink_bodies::{body_of, give, is_same};
 use mx_folder::{file_name, part_name, Folder, FolderError, MemoryFolder, MemoryPart};
-use mx_part_sink::PartSink;
+use mx_save::PartSink;
 use mx_sink::{MemorySink, SinkError};
 use mx_types::OutOfMemory;
 use std::alloc::Global;

@@ -1,6 +1,6 @@
 -- A part was made for a URL, or none could be.
 use Rattle.std.proofs.Common.{◌≡◌, ◌∙◌, refl, ap, sym, subst, ℕ, List, []}
-use Rattle.mx_part_sink.specs.PartSinks.{PartSinkValue, got_of}
+use Rattle.mx_save.specs.PartSinks.{PartSinkValue, got_of}
 use Rattle.mx_request.specs.Request.{RequestValue}
 use Rattle.mx_sink.specs.Outlets.{OutletValue, handed_of}
 use Rattle.mx_save_rules.specs.declared.waiting.Wait.{Wait}

@@ -1,6 +1,6 @@
 //! A URL's transfer, from the URL to the desk.
 ghost use Rattle.std.specs.Prelude.{◌≡◌, ◌<◌, [], false, count_by, is_some, OnOk};
-ghost use Rattle.mx_part_sink.specs.PartSinks.{got_of};
+ghost use Rattle.mx_save.specs.PartSinks.{got_of};
 ghost use Rattle.mx_save_book.specs.Books.{HasOpen, IsJobFor, Waits};
 ghost use Rattle.mx_sink.specs.Outlets.{handed_of};
 ghost use Rattle.mx_save_urls.specs.Works.{AreBroughtOn, IsSameWork, OthersAreBroughtOn};

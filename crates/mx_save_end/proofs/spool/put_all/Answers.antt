@@ -1,6 +1,6 @@
 use Rattle.std.proofs.Common.{length, ap, arith}
 use Rattle.std.proofs.lemmas.List.{length-drop, take_rest}
-use Rattle.mx_part_sink.specs.PartSinks.{got_of}
+use Rattle.mx_save.specs.PartSinks.{got_of}
 use Rattle.mx_save_end.proofs.Spools.{got_on}
 use Rattle.mx_save_end.proofs.spool.put_all.Goals as goal
 

@@ -1,5 +1,5 @@
 use Rattle.std.proofs.Common.{◌≡◌, ◌≤◌, ◌-◌, ◌++◌, take, length}
-use Rattle.mx_part_sink.specs.PartSinks.{got_of}
+use Rattle.mx_save.specs.PartSinks.{got_of}
 use Rattle.mx_save_end.proofs.spool.put_all.Given as goal
 
 -- a prefix of the bytes was added to what the sink got

@@ -1,8 +1,8 @@
 use Rattle.std.proofs.Common.{◌∙◌, ap, drop}
 use Rattle.std.proofs.lemmas.List.{take_rest}
-use Rattle.mx_part_sink.specs.PartSinks.{got_of}
-use Rattle.mx_part_sink.proofs.Writes.{got_on}
-use Rattle.mx_part_sink.proofs.part_sink.PartSink.drain.Goals as goal
+use Rattle.mx_save.specs.PartSinks.{got_of}
+use Rattle.mx_save.proofs.Writes.{got_on}
+use Rattle.mx_save.proofs.part_sink.PartSink.drain.Goals as goal
 
 pub returns-in-Some-clause-got : goal.returns-in-Some-clause-got
 returns-in-Some-clause-got g c =

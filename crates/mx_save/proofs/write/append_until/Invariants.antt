@@ -1,5 +1,5 @@
 use Rattle.std.proofs.Common.{◌≡◌, ◌≤◌, ◌-◌, ◌++◌, false, take, length}
-use Rattle.mx_part_sink.proofs.write.append_until.Given as goal
+use Rattle.mx_save.proofs.write.append_until.Given as goal
 
 -- a prefix of the bytes was added to what the part had
 abbrev pub invariant-loop-written : goal.invariant-loop-written

@@ -3,7 +3,7 @@ ghost use Rattle.std.specs.Prelude.{◌≡◌, ◌<◌, ◌≤◌, true, [], ◌
 ghost use Rattle.mx_folder.specs.declared.errors.FolderError.{FolderError as Why};
 ghost use Rattle.mx_folder.specs.Parts.{empty_part};
 ghost use Rattle.mx_sink.specs.Sinks.{taken};
-ghost use Rattle.mx_part_sink.specs.PartSinks.{got_of, empty_sink, most_gathered, part_of, part_with, told_as, IsUnfinished, IsAsItWas};
+ghost use Rattle.mx_save.specs.PartSinks.{got_of, empty_sink, most_gathered, part_of, part_with, told_as, IsUnfinished, IsAsItWas};
 
 use crate::write::{append_until, told_as};
 use mx_folder::{FolderError, PartFile};
@@ -30,7 +30,7 @@ pub struct PartSink<P: PartFile> {
 
 impl<P: PartFile> Model for PartSink<P> {
     ghost use Rattle.std.specs.Prelude.{◌≡◌, ◌≤◌, false, drop, length};
-    ghost use Rattle.mx_part_sink.specs.PartSinks.{PartSinkValue, most_gathered, refused_by};
+    ghost use Rattle.mx_save.specs.PartSinks.{PartSinkValue, most_gathered, refused_by};
 
     ghost Value = { PartSinkValue };
 

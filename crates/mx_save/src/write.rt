@@ -1,6 +1,6 @@
 //! Writes to a part.
 ghost use Rattle.std.specs.Prelude.{◌≡◌, ◌≤◌, false, ◌++◌, length, take, None};
-ghost use Rattle.mx_part_sink.specs.PartSinks.{refused_by, told_as};
+ghost use Rattle.mx_save.specs.PartSinks.{refused_by, told_as};
 
 use mx_folder::{FolderError, PartFile};
 use mx_sink::SinkError;

@@ -1,7 +1,7 @@
 use Rattle.std.proofs.Common.{◌∙◌}
 use Rattle.std.proofs.lemmas.List.{take_rest}
-use Rattle.mx_part_sink.proofs.Writes.{bytes_on, within_on, name_on, unflushed_on, refused_on}
-use Rattle.mx_part_sink.proofs.write.append_until.Goals as goal
+use Rattle.mx_save.proofs.Writes.{bytes_on, within_on, name_on, unflushed_on, refused_on}
+use Rattle.mx_save.proofs.write.append_until.Goals as goal
 
 pub loop-written-preserved : goal.loop-written-preserved
 loop-written-preserved g c =

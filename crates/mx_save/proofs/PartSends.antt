@@ -4,8 +4,8 @@ use denote.Param.Send.{IsSend, struct_send, sendable}
 use denote.Struct.Declared.{shape}
 use Rattle.std.proofs.Crossing.{crosses}
 use Rattle.mx_folder.specs.declared.folders.PartFile as part
-use Rattle.mx_part_sink.specs.contracts.part_sink.PartSink as PartSink
-use Rattle.mx_part_sink.specs.contracts.part_sink.PartSink.TheInside as Inside
+use Rattle.mx_save.specs.contracts.part_sink.PartSink as PartSink
+use Rattle.mx_save.specs.contracts.part_sink.PartSink.TheInside as Inside
 
 inside_field : (P : RattleType) (g : part.Ghosts P.Denot) → IsSend P → IsSend (Inside.the_field P g).row
 inside_field P g s = struct_send (shape (Inside.the_type P g)) (s, (search (sendable, crosses) depth 40, (search (sendable, crosses) depth 40, (search (sendable, crosses) depth 40, tt))))

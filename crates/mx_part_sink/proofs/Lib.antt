@@ -1,2 +1,0 @@
-pub mod Sends
-mod Writes
