@@ -170,7 +170,7 @@ for name, limits in {
         ("more than {} bytes", "mx_request/src/fields.rt", "MOST_VALUE"),
         ("more than {}.", "mx_request/src/request.rt", "MOST_BODY"),
     ),
-    "LISTS OF URLS": (("more than {} bytes", "mx_url_list/src/entry.rt", "MOST_LINE"),),
+    "LISTS OF URLS": (("more than {} bytes", "mx_save_rules/src/entry.rt", "MOST_LINE"),),
     "NAMES OF FILES": (("at most {} bytes", "mx_folder/src/names.rt", "MOST_LEN"),),
     "RETRIES": (("At most {} URLs", "mx_save_urls/src/plan.rt", "MOST_PENDING"),),
 }.items():

@@ -17,7 +17,7 @@ use Rattle.mx_command.specs.declared.save.Save.{Save}
 use Rattle.mx_save_end.specs.Bodies.{IsWholeBody, body_of}
 use Rattle.mx_save_book.specs.Jobs.{AreWhole, HoldsOf, IsTold}
 use Rattle.mx_save_book.specs.Lines.{LinesValue, PrintedEndValue}
-use Rattle.mx_save_asking.specs.declared.asking.Asking.{Asking}
+use Rattle.mx_save_rules.specs.declared.asking.Asking.{Asking}
 use Rattle.mx_run_save.specs.Saved.{TellsOfFolder}
 use Rattle.mx_run_save.specs.Told.{HoldsWhole, IsThere, LeavesTruly, MayLeaveWhole}
 

@@ -1,7 +1,7 @@
 -- A run that couldn't begin, and one that began.
 use Rattle.std.proofs.Common.{◌≡◌, ◌∙◌, refl, ap, arith, ℕ, Bool, List, [], true, false, Some, None, inl, inr}
 use Rattle.std.specs.Prelude.{◌⊎◌, Box, IsSome, Option, is_some}
-use Rattle.mx_url_list.specs.declared.list.UrlList.{UrlList}
+use Rattle.mx_save_rules.specs.declared.list.UrlList.{UrlList}
 use Rattle.mx_command.specs.declared.save.ListSource.{ListSource}
 use Rattle.mx_save_urls.specs.Feeds.{list_left}
 use Rattle.mx_command.specs.declared.save.Save.{Save}

@@ -9,7 +9,7 @@ use Rattle.mx_command.specs.declared.save.BodySource.{BodySource}
 use Rattle.mx_command.specs.declared.save.BodySource.TheVariants.{Text, File}
 use Rattle.mx_command.specs.declared.save.Header.{Header}
 use Rattle.mx_command.specs.declared.save.Save.{Save}
-use Rattle.mx_save_asking.specs.declared.asking.Asking.{Asking}
+use Rattle.mx_save_rules.specs.declared.asking.Asking.{Asking}
 
 -- a header field
 abbrev pub field_given : Header → Field

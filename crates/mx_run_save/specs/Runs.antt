@@ -4,7 +4,7 @@ use Rattle.mx_folder.specs.declared.errors.FolderError.{FolderError}
 use Rattle.mx_folder.specs.declared.steps.Step.{Step}
 use Rattle.mx_command.specs.declared.save.Save.{Save}
 use Rattle.mx_save_book.specs.Lines.{PrintedEndValue}
-use Rattle.mx_save_asking.specs.declared.asking.Asking.{Asking}
+use Rattle.mx_save_rules.specs.declared.asking.Asking.{Asking}
 use Rattle.mx_run_io.specs.declared.stop.Stop.{Stop}
 use Rattle.mx_run_save.specs.Asked.{IsAskedBy, IsBodyFile, IsRefusedAlways}
 use Rattle.mx_run_save.specs.Saved.{SavesIn, urls_of}

@@ -8,7 +8,7 @@ use Rattle.mx_save_end.specs.Bodies.{body_of}
 use Rattle.mx_save_book.specs.Books.{HaveEnded}
 use Rattle.mx_save_book.specs.Jobs.{AreWhole}
 use Rattle.mx_save_book.specs.Lines.{LinesValue, PrintedEndValue}
-use Rattle.mx_save_asking.specs.declared.asking.Asking.{Asking}
+use Rattle.mx_save_rules.specs.declared.asking.Asking.{Asking}
 use Rattle.mx_save_urls.specs.Runs.{TellsTruly}
 
 -- the URLs of a run, where it is known what its list has: those of the command line, and then those of the list

@@ -16,7 +16,7 @@ use Rattle.mx_save_end.specs.Bodies.{IsWholeBody, body_of}
 use Rattle.mx_save_end.specs.Heard.{body_length}
 use Rattle.mx_save_book.specs.Jobs.{Asks, IsTold}
 use Rattle.mx_save_book.specs.Lines.{PrintedEndValue}
-use Rattle.mx_save_asking.specs.declared.asking.Asking.{Asking}
+use Rattle.mx_save_rules.specs.declared.asking.Asking.{Asking}
 use Rattle.mx_run_save.specs.Saved.{RunLedger}
 
 -- Under the name that was reported is a file with the whole body of a response to the last request of the URL's chain, and no other bytes: as

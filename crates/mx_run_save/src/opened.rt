@@ -8,7 +8,7 @@ use crate::unread::tell_unread;
 use either::{Either, Left, Right};
 use mx_command::ListSource;
 use mx_folder::{FolderError, SystemFolder};
-use mx_url_list::UrlList;
+use mx_save_rules::UrlList;
 use std::alloc::AllocGlobal;
 use std::fs::File;
 use std::io::{Input, StdinLock};

@@ -19,7 +19,7 @@ use mx_run_io::{Output, Stop};
 use mx_save::Ledger;
 use mx_save_book::{Asking, Lines};
 use mx_save_urls::{Ended, Feed, Plan, Watch, save_all};
-use mx_url_list::UrlList;
+use mx_save_rules::UrlList;
 use std::fs::File;
 use std::io;
 use std::io::{BufWriter, Input, IsTerminal, Read, StdinLock, Write};

@@ -2,7 +2,7 @@
 ghost use Rattle.std.specs.Prelude.{ℕ, List, Option};
 ghost use Rattle.mx_folder.specs.declared.steps.Step.{Step};
 ghost use Rattle.mx_command.specs.declared.save.Save.{Save};
-ghost use Rattle.mx_save_asking.specs.declared.asking.Asking.{Asking};
+ghost use Rattle.mx_save_rules.specs.declared.asking.Asking.{Asking};
 ghost use Rattle.mx_run_save.specs.Saved.{TellsOfFolder};
 ghost use Rattle.mx_run_save.specs.Told.{LeavesTruly};
 

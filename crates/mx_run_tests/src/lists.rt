@@ -2,7 +2,7 @@
 use crate::escapes::SeenText;
 use crate::fakes::{PieceReader, Stalling};
 use crate::tally::add_all;
-use mx_url_list::{Entry, ListError, MOST_LINE, UrlList};
+use mx_save_rules::{Entry, ListError, MOST_LINE, UrlList};
 use std::alloc::{AllocError, Global};
 use std::io::Read;
 

@@ -28,7 +28,7 @@ use Rattle.mx_save_rules.specs.declared.end.Transferred.{Transferred}
 use Rattle.mx_save_end.specs.Said.{unsaved_code}
 use Rattle.mx_save.specs.Words.{unsaved_text}
 use Rattle.mx_types.specs.declared.names.Ticket.{Ticket}
-use Rattle.mx_save_asking.specs.declared.asking.Asking.{Asking}
+use Rattle.mx_save_rules.specs.declared.asking.Asking.{Asking}
 use Rattle.mx_save_book.specs.declared.finish.NotEnded.{NotEnded}
 use Rattle.mx_save_book.specs.declared.finish.NotEnded.TheVariants as not_ended
 use Rattle.mx_save_book.specs.declared.job.Job.{Job}

@@ -21,7 +21,7 @@ use Rattle.mx_save.specs.Tries.{removal_of}
 use Rattle.mx_save_rules.specs.Ends.{EndValue, IsEnd}
 use Rattle.mx_save_rules.specs.declared.end.Verdict.{Verdict}
 use Rattle.mx_save_rules.specs.declared.end.Verdict.TheVariants as verdict
-use Rattle.mx_save_asking.specs.declared.asking.Asking.{Asking}
+use Rattle.mx_save_rules.specs.declared.asking.Asking.{Asking}
 use Rattle.mx_save_book.specs.declared.job.Job.{Job}
 use Rattle.mx_save_book.specs.declared.job.Slot.{Slot}
 use Rattle.mx_save_book.specs.declared.job.Slot.TheVariants as slot

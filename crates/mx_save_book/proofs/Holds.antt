@@ -32,7 +32,7 @@ use Rattle.mx_save_end.specs.Bodies.{IsWholeBody}
 use Rattle.mx_save_end.specs.Framings.{TellsFraming}
 use Rattle.mx_save_end.specs.Heard.{HeardValue, IsHeard, IsTransferred}
 use Rattle.mx_save_end.specs.Said.{IsFailedWith, IsSaidBy, IsToldOf, unsaved_code}
-use Rattle.mx_save_asking.specs.declared.asking.Asking.{Asking}
+use Rattle.mx_save_rules.specs.declared.asking.Asking.{Asking}
 use Rattle.mx_save_book.specs.declared.job.Job.{Job}
 use Rattle.mx_save_book.specs.Jobs.{Asks, CanAsk, HasFound, HasRefused, HoldsOf, IsEnding, IsNeeded, IsReported, IsTry, IsUnsavedFor, TellsLeft, told_refusals}
 use Rattle.mx_save_book.proofs.Fails.{done_ok, needed_save, ok_or_not}

@@ -4,7 +4,7 @@ use Rattle.std.specs.Prelude.{ℕ}
 use Rattle.std.specs.List.{AllByRecursion}
 use Rattle.mx_chain.specs.Outcomes.{OutcomeValue}
 use Rattle.mx_save.specs.Ledgers.{LedgerValue}
-use Rattle.mx_save_asking.specs.declared.asking.Asking.{Asking}
+use Rattle.mx_save_rules.specs.declared.asking.Asking.{Asking}
 use Rattle.mx_save_book.specs.Books.{HaveEnded}
 use Rattle.mx_save_book.specs.Jobs.{AreWhole, IsLaterLedger, IsTold}
 use Rattle.mx_save_book.specs.Lines.{PrintedEndValue}

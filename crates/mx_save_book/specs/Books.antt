@@ -24,7 +24,7 @@ use Rattle.mx_save_end.specs.Said.{unsaved_code}
 use Rattle.mx_save_rules.specs.Ends.{EndValue, failed_end, skipped_end}
 use Rattle.mx_save_rules.specs.Rules.{delay_seconds, is_retried}
 use Rattle.mx_sink.specs.Outlets.{OutletValue}
-use Rattle.mx_save_asking.specs.declared.asking.Asking.{Asking}
+use Rattle.mx_save_rules.specs.declared.asking.Asking.{Asking}
 use Rattle.mx_save_book.specs.declared.begun.Begun.{Begun}
 use Rattle.mx_save_book.specs.declared.begun.Begun.TheVariants as begun
 use Rattle.mx_save_book.specs.declared.job.Job.{Job}

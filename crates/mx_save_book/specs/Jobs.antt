@@ -35,7 +35,7 @@ use Rattle.mx_save_end.specs.Bodies.{IsWholeBody}
 use Rattle.mx_save_end.specs.Heard.{HeardValue, body_length}
 use Rattle.mx_save_end.specs.Framings.{TellsFraming}
 use Rattle.mx_save_end.specs.Said.{IsSaid, IsUnsavedSaid, unsaved_code}
-use Rattle.mx_save_asking.specs.declared.asking.Asking.{Asking}
+use Rattle.mx_save_rules.specs.declared.asking.Asking.{Asking}
 use Rattle.mx_save_book.specs.declared.finish.NotEnded.{NotEnded}
 use Rattle.mx_save_book.specs.declared.finish.NotEnded.TheVariants as not_ended
 use Rattle.mx_save_book.specs.declared.job.Job.{Job}

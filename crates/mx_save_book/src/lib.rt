@@ -13,4 +13,4 @@ pub use crate::book::{Book, free_slots};
 pub use crate::job::{Job, Slot};
 pub use crate::lines::{Lines, PrintedEnd};
 pub use crate::tally::Tally;
-pub use mx_save_asking::Asking;
+pub use mx_save_rules::Asking;

@@ -13,7 +13,7 @@ use mx_folder::Folder;
 use mx_run_save::{Saved, save_in};
 use mx_save_book::{Asking, Lines};
 use mx_save_urls::Watch;
-use mx_url_list::UrlList;
+use mx_save_rules::UrlList;
 use std::io::{Read, Write};
 use std::net::{Net, TcpListener, TcpStream};
 

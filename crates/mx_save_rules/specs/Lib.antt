@@ -1,7 +1,9 @@
 pub mod Codes
 pub mod Decisions
 pub mod Ends
+pub mod Entries
 pub mod Laws
+pub mod Left
 pub mod Rules
 pub mod Status
 pub mod Texts

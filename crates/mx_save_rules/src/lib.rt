@@ -2,20 +2,27 @@
 //! exit status.
 #![tactic(auto)]
 
+mod asking;
 mod code;
 mod decision;
 mod end;
+mod entry;
 pub mod laws;
 mod line;
+mod list;
 mod object;
+mod open_line;
 mod retry_rules;
 mod status;
 mod waiting;
 
+pub use crate::asking::Asking;
 pub use crate::code::SaveCode;
 pub use crate::decision::{Decision, verdict_of};
 pub use crate::end::{End, FramingWord, Transferred, Verdict};
+pub use crate::entry::{Entry, MOST_LINE};
 pub use crate::line::print_line;
+pub use crate::list::{ListError, UrlList};
 pub use crate::object::{JsonError, print_json};
 pub use crate::retry_rules::{delay_ms, is_retried};
 pub use crate::status::ExitStatus;

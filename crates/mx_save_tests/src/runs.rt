@@ -11,7 +11,7 @@ use mx_run_save::{Saved, save_in};
 use mx_save_book::{Asking, Lines};
 use mx_save_urls::Nobody;
 use mx_types::{LEAST_HISTORY, Method, OutOfMemory, Settings};
-use mx_url_list::UrlList;
+use mx_save_rules::UrlList;
 use std::alloc::{AllocError, Global};
 use std::io;
 use std::io::{Error, ErrorKind, Read};

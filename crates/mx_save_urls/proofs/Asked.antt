@@ -7,7 +7,7 @@ use Rattle.mx_desk.proofs.Desks.{none_is_added}
 use Rattle.mx_fetch.proofs.Lists.{cases, stays, there}
 use Rattle.mx_save_book.specs.Books.{HasNoneAdded, IsAdded, IsAwaited, IsClosed, IsJobFor, awaits_at, is_unadded}
 use Rattle.mx_save_book.specs.Jobs.{Asks, job_at, job_of}
-use Rattle.mx_save_asking.specs.declared.asking.Asking.{Asking}
+use Rattle.mx_save_rules.specs.declared.asking.Asking.{Asking}
 use Rattle.mx_save_book.specs.declared.job.Job.{Job}
 use Rattle.mx_save_book.specs.declared.job.Slot.{Slot}
 use Rattle.mx_save_book.specs.declared.job.Slot.TheVariants as slot

@@ -6,7 +6,7 @@ use Rattle.mx_sink.specs.Outlets.{OutletValue, handed_of}
 use Rattle.mx_save_rules.specs.declared.waiting.Wait.{Wait}
 use Rattle.mx_save_book.specs.Books.{Begins, HasOpen, IsJobFor, WaitsOn, next_job}
 use Rattle.mx_save_book.specs.Jobs.{BookValue}
-use Rattle.mx_save_asking.specs.declared.asking.Asking.{Asking}
+use Rattle.mx_save_rules.specs.declared.asking.Asking.{Asking}
 use Rattle.mx_save_book.specs.declared.begun.Begun.{Begun}
 use Rattle.mx_save_book.specs.declared.begun.Begun.TheVariants as begun
 use Rattle.mx_save_book.specs.declared.job.Slot.{Slot}

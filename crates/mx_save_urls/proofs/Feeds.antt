@@ -2,9 +2,9 @@
 use Rattle.std.proofs.Common.{◌≡◌, ◌∙◌, refl, ap, sym, ℕ, ◌+◌, ◌<◌, ◌≤◌, suc, zero, List, [], ◌∷◌, ◌++◌, map, length, drop, get_or, arith}
 use Rattle.std.specs.Prelude.{Option, Some, None, option_map, option_to_list}
 use Rattle.std.proofs.lemmas.List.{drop-map, drop_more}
-use Rattle.mx_url_list.specs.Entries.{Told, told}
-use Rattle.mx_url_list.specs.Left.{GivesNext, KeepsEntries}
-use Rattle.mx_url_list.specs.declared.entry.Entry.{Entry}
+use Rattle.mx_save_rules.specs.Entries.{Told, told}
+use Rattle.mx_save_rules.specs.Left.{GivesNext, KeepsEntries}
+use Rattle.mx_save_rules.specs.declared.entry.Entry.{Entry}
 use Rattle.mx_save_urls.specs.Feeds.{Gives, IsUsedUp, Keeps}
 use Rattle.mx_save_urls.specs.Texts.{bytes_of}
 

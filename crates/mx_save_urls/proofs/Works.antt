@@ -5,7 +5,7 @@ use Rattle.mx_request.specs.Request.{RequestValue}
 use Rattle.mx_fetch.proofs.Lists.{cases}
 use Rattle.mx_save_book.specs.Books.{IsJobFor, StandsAt, is_unadded}
 use Rattle.mx_save_book.specs.Jobs.{Asks, job_at, job_of}
-use Rattle.mx_save_asking.specs.declared.asking.Asking.{Asking}
+use Rattle.mx_save_rules.specs.declared.asking.Asking.{Asking}
 use Rattle.mx_save_book.specs.declared.job.Slot.{Slot}
 use Rattle.mx_save_book.specs.declared.job.Slot.TheVariants as slot
 use Rattle.mx_save_urls.specs.Feeds.{Gives, IsFed, IsUsedUp, Keeps}

@@ -1,7 +1,7 @@
 -- The URLs that are still to be read.
 use Rattle.std.specs.Prelude.{◌≡◌, ◌⊎◌, ℕ, ◌<◌, Bool, Box, true, List, [], ◌++◌, drop, length, map, Option, Some, None, IsSome, option_map, option_to_list}
-use Rattle.mx_url_list.specs.Left.{entries_left}
-use Rattle.mx_url_list.specs.declared.list.UrlList.{UrlList}
+use Rattle.mx_save_rules.specs.Left.{entries_left}
+use Rattle.mx_save_rules.specs.declared.list.UrlList.{UrlList}
 use Rattle.mx_save_urls.specs.Texts.{bytes_of}
 use Rattle.mx_save_urls.specs.declared.feed.Feed.{Feed}
 

@@ -6,7 +6,7 @@ use Rattle.mx_save.specs.Ledgers.{LedgerValue}
 use Rattle.mx_save_book.specs.Books.{HaveEnded}
 use Rattle.mx_save_book.specs.Jobs.{AreWhole, IsTold}
 use Rattle.mx_save_book.specs.Lines.{LinesValue}
-use Rattle.mx_save_asking.specs.declared.asking.Asking.{Asking}
+use Rattle.mx_save_rules.specs.declared.asking.Asking.{Asking}
 
 -- The folder and the output are those that the run began with, and what was saved and printed since is in them.
 pub record IsOneRun {W : Type 0} (old_ledger : LedgerValue OutcomeValue) (old_lines : LinesValue W) (ledger : LedgerValue OutcomeValue) (lines : LinesValue W) : Type 0 where

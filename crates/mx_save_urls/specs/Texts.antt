@@ -1,6 +1,6 @@
 -- The texts of URLs.
 use Rattle.std.specs.Prelude.{ℕ, List}
-use Rattle.mx_url_list.specs.Entries.{Told, url, not_text, too_long}
+use Rattle.mx_save_rules.specs.Entries.{Told, url, not_text, too_long}
 
 -- the bytes of an entry: the text of its URL
 abbrev pub bytes_of : Told → List ℕ

@@ -1,11 +1,11 @@
 //! The URLs of a run: those of the command line, and then those of a list.
 ghost use Rattle.std.specs.Prelude.{◌≡◌, ◌≢◌, ◌≤◌, IfOk, length};
-ghost use Rattle.mx_url_list.specs.Entries.{told};
+ghost use Rattle.mx_save_rules.specs.Entries.{told};
 ghost use Rattle.mx_save_urls.specs.Texts.{bytes_of};
 ghost use Rattle.mx_save_urls.specs.declared.feed.Ahead.TheVariants as ahead;
 
 use mx_run_io::Stop;
-use mx_url_list::{Entry, ListError, UrlList};
+use mx_save_rules::{Entry, ListError, UrlList};
 use std::alloc::Global;
 use std::io::Read;
 
