@@ -1,5 +1,5 @@
 -- What contracts cite: what was done to a folder, what its parts and its names hold, what a kill or a loss of power may leave, and what is said of a
--- refusal.
+-- refusal; the path in a URL's text, the name that it gives, what a safe name is, and the laws.
 pub mod Counts
 pub mod Files
 pub mod Laws

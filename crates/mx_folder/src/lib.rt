@@ -1,4 +1,5 @@
-//! Folders: where bodies are written. Each operation on a folder is in a list that contracts alone read.
+//! Folders: where bodies are written, and the safe names that the paths of URLs give their files. Each operation on a folder is in a list that
+//! contracts alone read.
 #![tactic(auto)]
 
 mod errors;

@@ -18,7 +18,7 @@ use Rattle.mx_reason.specs.Faults.{fault_code, Tells}
 use Rattle.mx_run_body.specs.declared.reading.Received.{Received}
 use Rattle.mx_run_body.specs.declared.reading.InputError.{InputError}
 use Rattle.mx_run_body.specs.declared.reading.InputError.TheVariants.{Failed, OutOfMemory}
-use Rattle.mx_failure_text.specs.declared.report.FailureReport.{FailureReport}
+use Rattle.mx_text.specs.declared.report.FailureReport.{FailureReport}
 use Rattle.mx_run_body.specs.Reading.{IsReceived, IsRead}
 use Rattle.mx_run_body.specs.Explained.{IsWhyNone, IsTold, TellsVerdict, TellsRead, code_alone, told_lines}
 

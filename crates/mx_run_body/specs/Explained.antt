@@ -9,8 +9,8 @@ use Rattle.mx_body.specs.declared.verdict.Verdict.TheVariants as verdict
 use Rattle.mx_body.specs.Decision.{IsVerdict}
 use Rattle.mx_reason.specs.declared.reason.Reason.{Reason}
 use Rattle.mx_reason.specs.Reasons.{IsReason, BeginsWithAny}
-use Rattle.mx_failure_text.specs.declared.report.FailureReport.{FailureReport}
-use Rattle.mx_failure_text.specs.Lines.{body_lines}
+use Rattle.mx_text.specs.declared.report.FailureReport.{FailureReport}
+use Rattle.mx_text.specs.Lines.{body_lines}
 use Rattle.mx_run_body.specs.Reading.{WasRead}
 
 -- why these bytes aren't a whole response; none, where the first of them are one

@@ -1,7 +1,7 @@
 //! Why what was received isn't a whole response.
 ghost use Rattle.std.specs.Prelude.{◌≡◌, ◌≢◌, ℕ, List, true, None, Option, Err, IfOk, OnOk, IsErr};
 ghost use Rattle.mx_run_io.specs.Ends.{has_failed_write, Wrote};
-ghost use Rattle.mx_failure_text.specs.Lines.{body_lines};
+ghost use Rattle.mx_text.specs.Lines.{body_lines};
 ghost use Rattle.mx_run_body.specs.Reading.{IsReceived, IsRead};
 ghost use Rattle.mx_run_body.specs.Explained.{IsWhyNone, IsTold, TellsRead, code_alone, told_lines};
 ghost use Rattle.mx_run_body.specs.declared.reading.InputError.TheVariants.{Failed, OutOfMemory};
@@ -9,7 +9,7 @@ ghost use Rattle.mx_run_body.specs.declared.reading.InputError.TheVariants.{Fail
 use crate::reading::{InputError, Received};
 use mx_body::Verdict;
 use mx_body::laws::one_verdict;
-use mx_failure_text::{FailureReport, print_body_failure};
+use mx_text::{FailureReport, print_body_failure};
 use mx_reason::{Reason, reason_of};
 use mx_run_io::{Output, WriteFailed};
 use mx_types::{Code, Method};

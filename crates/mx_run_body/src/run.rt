@@ -6,7 +6,7 @@ ghost use Rattle.mx_run_io.specs.Ends.{reader_of, reads_of, most_reads_of, has_f
 ghost use Rattle.mx_body.specs.Parts.{joined};
 ghost use Rattle.mx_run_body.specs.Texts.{part_len, response_line, StandsWithin};
 ghost use Rattle.mx_run_io.specs.Faults.{PrintsFault};
-ghost use Rattle.mx_failure_text.specs.Lines.{body_lines};
+ghost use Rattle.mx_text.specs.Lines.{body_lines};
 ghost use Rattle.mx_run_body.specs.Reading.{ReadsUpTo, IsRead};
 ghost use Rattle.mx_run_body.specs.Run.{text_of, exit_status, AnswersRead, FitsIn, PrintsReceived};
 ghost use Rattle.mx_run_body.specs.Explained.{TellsRead};

@@ -4,8 +4,8 @@ use Rattle.std.specs.Prelude.{Ok}
 use Rattle.mx_types.specs.declared.code.Code.TheVariants as code
 use Rattle.mx_exchange.specs.Hops.{HasContent}
 use Rattle.mx_chain.specs.Outcomes.{OutcomeValue, IsOutcome}
-use Rattle.mx_get_text.specs.Fetched.{fetched_of}
-use Rattle.mx_get_text.proofs.Kept.{ok_tells}
+use Rattle.mx_text.specs.Fetched.{fetched_of}
+use Rattle.mx_text.proofs.Kept.{ok_tells}
 use Rattle.mx_run_get.specs.Asked.{asked_of, IsEnd}
 
 -- it is of the outcome's request

@@ -12,10 +12,10 @@ use Rattle.mx_request.specs.declared.error.RequestError.TheVariants as refusal
 use Rattle.mx_chain.specs.Outcomes.{OutcomeValue}
 use Rattle.mx_desk.proofs.Desks.{none_is_added}
 use Rattle.mx_fetch.proofs.Lists.{cases, stays, there}
-use Rattle.mx_get_text.specs.Asking.{asked_for}
-use Rattle.mx_get_text.specs.declared.fetched.Fetched.{Fetched}
+use Rattle.mx_text.specs.Asking.{asked_for}
+use Rattle.mx_text.specs.declared.fetched.Fetched.{Fetched}
 use Rattle.mx_run_io.specs.declared.options.Options.{Options}
-use Rattle.mx_get_text.specs.Fetched.{fetched_of}
+use Rattle.mx_text.specs.Fetched.{fetched_of}
 use Rattle.mx_run_get.specs.Asked.{AreEndsOf, IsEnd, asked_of}
 use Rattle.mx_run_get.specs.Getting.{AreAwaited, GettingValue, HasTakenAll, IsGetting, asked_next, wanted}
 use Rattle.mx_run_get.specs.Places.{TakesAt, asked_at, is_awaiting, is_awaiting_at, noted_at}

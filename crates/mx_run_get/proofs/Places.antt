@@ -4,7 +4,7 @@ use Rattle.std.specs.Prelude.{Option, Some, Ok, slice_get, slice_set}
 use Rattle.mx_request.specs.Request.{RequestValue}
 use Rattle.mx_chain.specs.Outcomes.{OutcomeValue}
 use Rattle.mx_fetch.proofs.Lists.{cases}
-use Rattle.mx_get_text.specs.declared.fetched.Fetched.{Fetched}
+use Rattle.mx_text.specs.declared.fetched.Fetched.{Fetched}
 use Rattle.mx_run_get.proofs.Ends.{asked_kept}
 use Rattle.mx_run_get.specs.Asked.{asked_of}
 use Rattle.mx_run_get.specs.Getting.{AreAwaited}

@@ -5,9 +5,9 @@ use Rattle.std.proofs.KnownBytes.{Appends-trans}
 use Rattle.std.proofs.lemmas.Bool.Decides.{eqb_tells}
 use Rattle.mx_types.specs.Code.{code_number}
 use Rattle.mx_run_io.specs.Ends.{Wrote, has_failed_write}
-use Rattle.mx_get_text.specs.declared.fetched.Fetched.{Fetched}
-use Rattle.mx_get_text.specs.Fetched.{code_of}
-use Rattle.mx_get_text.specs.Texts.{transfer_text, texts_from, exit_status}
+use Rattle.mx_text.specs.declared.fetched.Fetched.{Fetched}
+use Rattle.mx_text.specs.Fetched.{code_of}
+use Rattle.mx_text.specs.Texts.{transfer_text, texts_from, exit_status}
 use Rattle.mx_run_get.specs.Printer.{PrinterValue, IsPrinter}
 
 texts_push : (h : ℕ) (xs : List Fetched) (y : Fetched) → texts_from h (xs ++ y ∷ []) ≡ texts_from h xs ++ transfer_text (h + length xs) y

@@ -8,9 +8,9 @@ use Rattle.mx_types.specs.declared.code.Code.TheVariants as codes
 use Rattle.mx_run_io.specs.Ends.{Wrote}
 use Rattle.mx_run_io.specs.Faults.{PrintsFault, fault_line}
 use Rattle.mx_run_io.specs.declared.output.Output.{Output}
-use Rattle.mx_failure_text.specs.Lines.{Writes, body_line}
-use Rattle.mx_get_text.specs.declared.fetched.Fetched.{Fetched}
-use Rattle.mx_get_text.specs.Texts.{texts_from, exit_status}
+use Rattle.mx_text.specs.Lines.{Writes, body_line}
+use Rattle.mx_text.specs.declared.fetched.Fetched.{Fetched}
+use Rattle.mx_text.specs.Texts.{texts_from, exit_status}
 use Rattle.mx_run_get.specs.Asked.{AreEndsOf}
 use Rattle.mx_run_get.specs.Causes.{cause_words}
 use Rattle.mx_run_get.specs.Explained.{IsRunText}

@@ -8,11 +8,11 @@ use Rattle.std.proofs.lemmas.List.{length-map}
 use Rattle.mx_types.specs.declared.code.Code.{Code}
 use Rattle.mx_reason.specs.declared.reason.Reason.{Reason}
 use Rattle.mx_chain.specs.Hops.{is_ok}
-use Rattle.mx_get_text.specs.declared.fetched.Fetched.{Fetched}
-use Rattle.mx_get_text.specs.Fetched.{code_of}
-use Rattle.mx_failure_text.specs.Words.{told_text}
-use Rattle.mx_failure_text.specs.Hints.{file_limit_hint}
-use Rattle.mx_failure_text.specs.Lines.{IsFailureText, Writes, hint_line}
+use Rattle.mx_text.specs.declared.fetched.Fetched.{Fetched}
+use Rattle.mx_text.specs.Fetched.{code_of}
+use Rattle.mx_text.specs.Words.{told_text}
+use Rattle.mx_text.specs.Hints.{file_limit_hint}
+use Rattle.mx_text.specs.Lines.{IsFailureText, Writes, hint_line}
 use Rattle.mx_run_get.specs.Explained.{IsWhyOf, IsEndText, AreEndTexts, IsRunText}
 
 -- a URL that ended well, or failed

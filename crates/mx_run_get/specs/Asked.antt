@@ -5,9 +5,9 @@ use Rattle.mx_types.specs.declared.code.Code.TheVariants as code
 use Rattle.mx_request.specs.Request.{RequestValue}
 use Rattle.mx_exchange.specs.Hops.{HasContent}
 use Rattle.mx_chain.specs.Outcomes.{IsOutcome}
-use Rattle.mx_get_text.specs.Asking.{asked_for}
-use Rattle.mx_get_text.specs.declared.fetched.Fetched.{Fetched}
-use Rattle.mx_get_text.specs.declared.fetched.Fetched.TheVariants.{Refused, Ended, Failed}
+use Rattle.mx_text.specs.Asking.{asked_for}
+use Rattle.mx_text.specs.declared.fetched.Fetched.{Fetched}
+use Rattle.mx_text.specs.declared.fetched.Fetched.TheVariants.{Refused, Ended, Failed}
 
 -- the request of the transfer that has ended, or the code of a refusal
 abbrev pub asked_of : Fetched → Result RequestValue Code

@@ -2,13 +2,13 @@
 use Rattle.std.specs.Prelude.{◌≡◌, ℕ, Bool, true, false, List, [], ◌∷◌, ◌++◌, Option, None}
 use Rattle.mx_reason.specs.declared.reason.Reason.{Reason}
 use Rattle.mx_chain.specs.Hops.{is_ok}
-use Rattle.mx_get_text.specs.declared.fetched.Fetched.{Fetched}
-use Rattle.mx_get_text.specs.declared.fetched.Fetched.TheVariants.{Refused, Ended, Failed}
-use Rattle.mx_get_text.specs.Fetched.{code_of}
-use Rattle.mx_get_text.specs.Failures.{IsWhy}
-use Rattle.mx_failure_text.specs.Words.{told_text}
-use Rattle.mx_failure_text.specs.Hints.{file_limit_hint}
-use Rattle.mx_failure_text.specs.Lines.{IsFailureText, hint_line}
+use Rattle.mx_text.specs.declared.fetched.Fetched.{Fetched}
+use Rattle.mx_text.specs.declared.fetched.Fetched.TheVariants.{Refused, Ended, Failed}
+use Rattle.mx_text.specs.Fetched.{code_of}
+use Rattle.mx_text.specs.Failures.{IsWhy}
+use Rattle.mx_text.specs.Words.{told_text}
+use Rattle.mx_text.specs.Hints.{file_limit_hint}
+use Rattle.mx_text.specs.Lines.{IsFailureText, hint_line}
 
 -- why a URL ended so, as far as the received bytes show: of a transfer that failed what its failure has
 abbrev pub IsWhyOf : Fetched → Option Reason → Type 0

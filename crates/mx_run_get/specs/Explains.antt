@@ -1,11 +1,11 @@
 -- What a run reports beside what it prints.
 use Rattle.std.specs.Prelude.{◌≡◌, ℕ, Bool, ◌⊎◌, List}
-use Rattle.mx_get_text.specs.declared.fetched.Fetched.{Fetched}
-use Rattle.mx_get_text.specs.Texts.{texts_from, exit_status}
+use Rattle.mx_text.specs.declared.fetched.Fetched.{Fetched}
+use Rattle.mx_text.specs.Texts.{texts_from, exit_status}
 use Rattle.mx_run_get.specs.Asked.{AreEndsOf}
 use Rattle.mx_run_get.specs.Run.{StopsAfter}
 use Rattle.mx_run_get.specs.declared.error.FetchError.{FetchError}
-use Rattle.mx_failure_text.specs.Lines.{Writes, body_line}
+use Rattle.mx_text.specs.Lines.{Writes, body_line}
 use Rattle.mx_run_get.specs.Explained.{IsRunText}
 use Rattle.mx_run_get.specs.Causes.{cause_words}
 

@@ -4,8 +4,8 @@ use Rattle.mx_types.specs.declared.code.Code.{Code}
 use Rattle.mx_request.specs.Request.{RequestValue}
 use Rattle.mx_fetch.specs.declared.turned.Turned.{Turned}
 use Rattle.mx_fetch.specs.declared.turned.Turned.TheVariants as how
-use Rattle.mx_get_text.specs.Asking.{asked_for}
-use Rattle.mx_get_text.specs.declared.fetched.Fetched.{Fetched}
+use Rattle.mx_text.specs.Asking.{asked_for}
+use Rattle.mx_text.specs.declared.fetched.Fetched.{Fetched}
 use Rattle.mx_run_io.specs.declared.options.Options.{Options}
 use Rattle.mx_run_get.specs.Asked.{asked_of, IsEnd}
 use Rattle.mx_run_get.specs.Places.{asked_at, is_awaiting, IsAwaitedAt}

@@ -5,8 +5,8 @@ use Rattle.std.specs.declared.snapshot.Snapshot.{Snapshot}
 use Rattle.mx_types.specs.declared.code.Code.{Code}
 use Rattle.mx_request.specs.Request.{RequestValue}
 use Rattle.mx_chain.specs.Outcomes.{OutcomeValue}
-use Rattle.mx_get_text.specs.Fetched.{fetched_of}
-use Rattle.mx_get_text.specs.declared.fetched.Fetched.{Fetched}
+use Rattle.mx_text.specs.Fetched.{fetched_of}
+use Rattle.mx_text.specs.declared.fetched.Fetched.{Fetched}
 use Rattle.mx_run_get.specs.Asked.{asked_of}
 use Rattle.mx_run_get.specs.declared.place.Place.{Place}
 use Rattle.mx_run_get.specs.declared.place.Place.TheVariants.{Awaited, Known, Taken}

@@ -1,7 +1,7 @@
 -- The ends that were printed.
 use Rattle.std.specs.Prelude.{◌≡◌, ◌≢◌, ◌<◌, ℕ, true, List, Option}
-use Rattle.mx_get_text.specs.declared.fetched.Fetched.{Fetched}
-use Rattle.mx_get_text.specs.Texts.{texts_from, exit_status}
+use Rattle.mx_text.specs.declared.fetched.Fetched.{Fetched}
+use Rattle.mx_text.specs.Texts.{texts_from, exit_status}
 use Rattle.mx_run_io.specs.declared.output.Output.{Output}
 use Rattle.mx_run_io.specs.Ends.{Wrote, has_failed_write}
 

@@ -3,8 +3,8 @@ use Rattle.std.specs.Prelude.{◌≡◌, ℕ, ◌⊎◌, List, ◌++◌, length,
 use Rattle.mx_types.specs.Code.{code_number}
 use Rattle.mx_types.specs.declared.code.Code.TheVariants as codes
 use Rattle.mx_run_io.specs.Faults.{fault_line}
-use Rattle.mx_get_text.specs.declared.fetched.Fetched.{Fetched}
-use Rattle.mx_get_text.specs.Texts.{texts_from, exit_status}
+use Rattle.mx_text.specs.declared.fetched.Fetched.{Fetched}
+use Rattle.mx_text.specs.Texts.{texts_from, exit_status}
 use Rattle.mx_run_get.specs.Asked.{AreEndsOf}
 
 -- What is written are the texts of ends of these URLs, and the program ends with their exit status.

@@ -1,10 +1,10 @@
 //! What a URL ended with, with its truth.
 ghost use Rattle.std.specs.Prelude.{◌≡◌};
-ghost use Rattle.mx_get_text.specs.Fetched.{fetched_of};
-ghost use Rattle.mx_get_text.specs.declared.fetched.Fetched.TheVariants as fetched;
+ghost use Rattle.mx_text.specs.Fetched.{fetched_of};
+ghost use Rattle.mx_text.specs.declared.fetched.Fetched.TheVariants as fetched;
 ghost use Rattle.mx_run_get.specs.Asked.{IsEnd};
 
-use mx_get_text::Fetched;
+use mx_text::Fetched;
 use mx_transfer::Outcome;
 use mx_types::Code;
 use std::alloc::Global;
@@ -17,7 +17,7 @@ pub struct UrlEnd {
 }
 
 impl Model for UrlEnd {
-    ghost use Rattle.mx_get_text.specs.declared.fetched.Fetched.{Fetched};
+    ghost use Rattle.mx_text.specs.declared.fetched.Fetched.{Fetched};
     ghost use Rattle.mx_run_get.specs.Asked.{IsEnd};
 
     ghost Value = { Fetched };

@@ -2,12 +2,11 @@
 ghost use Rattle.std.specs.Prelude.{◌≡◌, ◌<◌, ◌≤◌, true, IsErr, OnOk, Some, length, map, option_map, slice_get};
 ghost use Rattle.mx_run_io.specs.Ends.{has_failed_write, Wrote};
 ghost use Rattle.mx_chain.specs.Hops.{is_ok};
-ghost use Rattle.mx_failure_text.specs.Lines.{Writes};
+ghost use Rattle.mx_text.specs.Lines.{Writes};
 ghost use Rattle.mx_run_get.specs.Explained.{IsEndText, AreEndTexts, IsRunText};
 
 use crate::printed::PrintedEnd;
-use mx_failure_text::{print_failure, print_file_limit};
-use mx_get_text::Fetched;
+use mx_text::{print_failure, print_file_limit, Fetched};
 use mx_run_io::{Output, WriteFailed};
 use mx_types::Code;
 use std::io::Write;

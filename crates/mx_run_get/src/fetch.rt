@@ -12,7 +12,7 @@ use crate::getting::Getting;
 use crate::taker::TakeEnds;
 use mx_crew::Runtime;
 use mx_fetch::{FetchEnd, Room, fetch_over_sockets};
-use mx_get_text::Fetched;
+use mx_text::Fetched;
 use mx_multi::Limits;
 use mx_run_io::{Options, Stop};
 use mx_sink::Held;

@@ -1,10 +1,9 @@
 //! What is left of an end that was printed.
 ghost use Rattle.std.specs.Prelude.{◌≡◌};
-ghost use Rattle.mx_get_text.specs.Fetched.{code_of};
+ghost use Rattle.mx_text.specs.Fetched.{code_of};
 ghost use Rattle.mx_run_get.specs.Explained.{IsWhyOf};
 
-use mx_failure_text::FailureReport;
-use mx_get_text::Fetched;
+use mx_text::{FailureReport, Fetched};
 use std::marker::Model;
 use std::snapshot::Snapshot;
 
@@ -32,8 +31,8 @@ pub struct PrintedEnd {
 
 impl Model for PrintedEnd {
     ghost use Rattle.std.specs.Prelude.{◌≡◌};
-    ghost use Rattle.mx_get_text.specs.Fetched.{code_of};
-    ghost use Rattle.mx_get_text.specs.declared.fetched.Fetched.{Fetched};
+    ghost use Rattle.mx_text.specs.Fetched.{code_of};
+    ghost use Rattle.mx_text.specs.declared.fetched.Fetched.{Fetched};
     ghost use Rattle.mx_run_get.specs.Explained.{IsWhyOf};
 
     ghost Value = { Fetched };

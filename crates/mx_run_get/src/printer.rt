@@ -2,12 +2,12 @@
 ghost use Rattle.std.specs.Prelude.{◌≡◌, ◌≢◌, ◌<◌, [], ◌∷◌, ◌++◌, true, IsErr, OnOk, if◌then◌else◌, ◌==◌};
 ghost use Rattle.mx_types.specs.Code.{code_number};
 ghost use Rattle.mx_run_io.specs.Ends.{has_failed_write, Wrote, writer_of};
-ghost use Rattle.mx_get_text.specs.Texts.{texts_from, exit_status};
+ghost use Rattle.mx_text.specs.Texts.{texts_from, exit_status};
 
 use crate::end::UrlEnd;
 use crate::printed::PrintedEnd;
 use crate::taker::TakeEnds;
-use mx_get_text::{Fetched, print_transfer};
+use mx_text::{Fetched, print_transfer};
 use mx_run_io::{Output, Stop, UNWRITTEN};
 use mx_types::Code;
 use std::alloc::Global;

@@ -5,7 +5,7 @@ ghost use Rattle.mx_types.specs.declared.code.Code.TheVariants as codes;
 ghost use Rattle.mx_run_io.specs.Faults.{PrintsFault};
 ghost use Rattle.mx_run_io.specs.Options.{are_within};
 ghost use Rattle.mx_run_io.specs.Ends.{has_failed_write, is_pending, Wrote, EndsRun};
-ghost use Rattle.mx_get_text.specs.Texts.{texts_from, exit_status};
+ghost use Rattle.mx_text.specs.Texts.{texts_from, exit_status};
 ghost use Rattle.mx_run_get.specs.Asked.{AreEndsOf};
 ghost use Rattle.mx_run_get.specs.Run.{AnswersUrls, PrintsEnds, PrintsFirst};
 ghost use Rattle.mx_run_get.specs.declared.error.FetchError.TheVariants as fetch_error;

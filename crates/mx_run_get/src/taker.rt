@@ -1,9 +1,9 @@
 //! What takes the ends of URLs.
 ghost use Rattle.std.specs.Prelude.{◌≡◌, ℕ, List, [], ◌∷◌, ◌++◌, Option, None, length, IsErr, OnOk};
-ghost use Rattle.mx_get_text.specs.declared.fetched.Fetched.{Fetched as AnEnd};
+ghost use Rattle.mx_text.specs.declared.fetched.Fetched.{Fetched as AnEnd};
 
 use crate::end::UrlEnd;
-use mx_get_text::Fetched;
+use mx_text::Fetched;
 use mx_run_io::Stop;
 
 /// What takes the ends of URLs, in their order.

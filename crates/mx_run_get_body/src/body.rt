@@ -3,7 +3,7 @@ ghost use Rattle.std.specs.Prelude.{◌≡◌, ◌⊎◌, ◌↔◌, [], true, f
 ghost use Rattle.mx_types.specs.declared.code.Code.TheVariants as one;
 ghost use Rattle.mx_multi.specs.Opening.{are_within as are_limits_within};
 ghost use Rattle.mx_run_io.specs.Options.{are_within};
-ghost use Rattle.mx_get_text.specs.Failures.{IsFlowingWhy};
+ghost use Rattle.mx_text.specs.Failures.{IsFlowingWhy};
 ghost use Rattle.mx_run_get_body.specs.Bodies.{IsWritten};
 ghost use Rattle.mx_sink.specs.Outlets.{handed_of};
 
@@ -11,7 +11,7 @@ use crate::fetching::Fetching;
 use crate::writer_sink::WriterSink;
 use mx_crew::Runtime;
 use mx_fetch::{FetchEnd, Room, fetch_over_sockets};
-use mx_get_text::flowing_why_of;
+use mx_text::flowing_why_of;
 use mx_multi::Limits;
 use mx_reason::Reason;
 use mx_request::Request;

@@ -3,7 +3,7 @@ use crate::fakes::Pipe;
 use crate::tally::RowTally;
 use crate::transfers::{Planned, fetch_all};
 use futures::test::MockTask;
-use mx_get_text::{Fetched, print_get};
+use mx_text::{Fetched, print_get};
 use mx_reason::{Cut, Defect, Fault, Reason};
 use mx_run_io::Output;
 use mx_types::Code;

@@ -1,7 +1,7 @@
 //! Transfers that ended, from scripted links.
 use futures::task::Poll;
 use futures::test::MockTask;
-use mx_get_text::Fetched;
+use mx_text::Fetched;
 use mx_link::{ScriptLink, ScriptRead};
 use mx_request::Request;
 use mx_transfer::Transfer;

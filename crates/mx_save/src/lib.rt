@@ -1,4 +1,5 @@
-//! Bodies that are saved whole: a file that was saved is a whole body at each moment, whenever the program is killed.
+//! Bodies that are saved whole: a file that was saved is a whole body at each moment, whenever the program is killed. A sink writes the content
+//! of a body to its part as it comes.
 #![tactic(auto)]
 
 mod body;

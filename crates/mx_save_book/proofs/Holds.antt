@@ -5,14 +5,14 @@ use Rattle.std.specs.List.{AllByRecursion, Contains}
 use Rattle.mx_types.specs.declared.code.Code.{Code}
 use Rattle.mx_types.specs.declared.code.Code.TheVariants as codes
 use Rattle.mx_chain.specs.Outcomes.{OutcomeValue, IsEnd as IsTransferEnd}
-use Rattle.mx_failure_text.specs.Words.{told_text}
+use Rattle.mx_text.specs.Words.{told_text}
 use Rattle.mx_folder.specs.declared.errors.FolderError.{FolderError}
 use Rattle.mx_folder.specs.declared.steps.FolderCall.TheVariants as call
 use Rattle.mx_folder.specs.declared.steps.Step.{Step}
 use Rattle.mx_folder.specs.declared.steps.Step.TheVariants as steps
 use Rattle.mx_folder.specs.Steps.{refusals, refused_calls}
 use Rattle.mx_folder.specs.Words.{folder_words}
-use Rattle.mx_get_text.specs.Failures.{IsFlowingWhy}
+use Rattle.mx_text.specs.Failures.{IsFlowingWhy}
 use Rattle.mx_reason.specs.declared.reason.Reason.{Reason}
 use Rattle.mx_save.specs.Bodies.{left_of}
 use Rattle.mx_save.specs.Ledgers.{LedgerValue}

@@ -22,7 +22,7 @@ use Rattle.mx_save.specs.Tries.{refusal_of, removal_of}
 use Rattle.mx_save.specs.Words.{left_text, unsaved_text}
 use Rattle.mx_save.specs.declared.error.SaveError.{SaveError}
 use Rattle.mx_save.specs.declared.error.SaveError.TheVariants as unsaved
-use Rattle.mx_failure_text.specs.Words.{code_words}
+use Rattle.mx_text.specs.Words.{code_words}
 use Rattle.mx_save_rules.specs.Decisions.{IsDecision}
 use Rattle.mx_save_rules.specs.declared.code.SaveCode.TheVariants as save
 use Rattle.mx_save_rules.specs.declared.decision.Decision.{Decision}

@@ -26,7 +26,7 @@ use crate::job::{Job, Slot};
 use crate::lines::Lines;
 use crate::tally::Tally;
 use mx_chain::Outcome;
-use mx_failure_text::code_words;
+use mx_text::code_words;
 use mx_folder::{Names, Folder, FolderError, Kind};
 use mx_save::{PartSink, Ledger, SaveError, Unsaved};
 use mx_request::{Request, RequestError};

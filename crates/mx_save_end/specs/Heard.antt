@@ -2,8 +2,8 @@
 use Rattle.std.specs.Prelude.{◌≡◌, ◌≢◌, ◌⊎◌, ℕ, ◌-◌, ◌^◌, min, length, Bool, true, Option, None, IfSome}
 use Rattle.mx_types.specs.declared.code.Code.TheVariants as codes
 use Rattle.mx_chain.specs.Outcomes.{OutcomeValue, IsEnd as IsTransferEnd, hops_of}
-use Rattle.mx_failure_text.specs.declared.report.FailureReport.{FailureReport}
-use Rattle.mx_get_text.specs.Failures.{IsFlowingWhy}
+use Rattle.mx_text.specs.declared.report.FailureReport.{FailureReport}
+use Rattle.mx_text.specs.Failures.{IsFlowingWhy}
 use Rattle.mx_save_rules.specs.declared.decision.Decision.{Decision}
 use Rattle.mx_save_rules.specs.declared.end.Transferred.{Transferred}
 use Rattle.mx_sink.specs.Sinks.{is_sink_code}

@@ -13,8 +13,8 @@ use Rattle.mx_save_rules.specs.declared.code.SaveCode.TheVariants as save
 use Rattle.mx_save_rules.specs.declared.end.Transferred.{Transferred}
 use Rattle.mx_reason.specs.declared.reason.Reason.{Reason}
 use Rattle.mx_chain.specs.Outcomes.{OutcomeValue}
-use Rattle.mx_get_text.specs.Failures.{IsFlowingWhy}
-use Rattle.mx_failure_text.specs.Words.{told_text}
+use Rattle.mx_text.specs.Failures.{IsFlowingWhy}
+use Rattle.mx_text.specs.Words.{told_text}
 
 -- the words of the code of a transfer that failed, and what its bytes show
 abbrev pub IsToldOf : OutcomeValue → List ℕ → Type 0

@@ -7,7 +7,7 @@ ghost use Rattle.mx_save_end.specs.Framings.{IsStepped, TellsFraming, word_of};
 
 use mx_body::MOST_INTERIM;
 use mx_chain::Outcome;
-use mx_get_text::last_method;
+use mx_text::last_method;
 use mx_head::{Framing, HeadStep, framing, read_head};
 use mx_save_rules::FramingWord;
 use mx_sink::Delivery;

@@ -2,7 +2,7 @@
 ghost use Rattle.std.specs.Prelude.{◌≡◌, ◌⊎◌, ◌-◌, ◌^◌, true, min, length};
 ghost use Rattle.mx_types.specs.declared.code.Code.TheVariants as code;
 ghost use Rattle.mx_chain.specs.Outcomes.{hops_of};
-ghost use Rattle.mx_get_text.specs.Failures.{IsFlowingWhy};
+ghost use Rattle.mx_text.specs.Failures.{IsFlowingWhy};
 ghost use Rattle.mx_save_rules.specs.Decisions.{IsDecision};
 ghost use Rattle.mx_sink.specs.Sinks.{is_sink_code};
 ghost use Rattle.mx_save_end.specs.Heard.{IsHeard, IsTransferred};
@@ -10,8 +10,7 @@ ghost use Rattle.mx_save_end.specs.Heard.{IsHeard, IsTransferred};
 use crate::body::{WholeBody, body_len, know_handed};
 use crate::framing::framing_of;
 use mx_chain::Outcome;
-use mx_failure_text::FailureReport;
-use mx_get_text::{flowing_why_of, last_method};
+use mx_text::{FailureReport, flowing_why_of, last_method};
 use mx_save_rules::{Decision, Transferred, verdict_of};
 use mx_sink::{Delivery, Outlet, Sink};
 use mx_types::Code;

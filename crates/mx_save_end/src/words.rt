@@ -1,11 +1,11 @@
 //! What is said of a URL that failed.
 ghost use Rattle.std.specs.Prelude.{◌≡◌, ◌≢◌, ◌++◌, List, ℕ, IfOk, codes, string_bytes};
 ghost use Rattle.mx_types.specs.declared.code.Code.TheVariants as code;
-ghost use Rattle.mx_failure_text.specs.Words.{told_text};
+ghost use Rattle.mx_text.specs.Words.{told_text};
 ghost use Rattle.mx_save.specs.Words.{left_text};
 ghost use Rattle.mx_save_end.specs.Said.{IsSaidBy};
 
-use mx_failure_text::FailureReport;
+use mx_text::FailureReport;
 use mx_save::Discarded;
 use mx_types::Code;
 use std::alloc::{AllocError, Global};

@@ -1,5 +1,5 @@
-//! What `mxfetch save` prints, a line for each URL; after which ends a body is saved, or the URL is tried again, and after how long; and the
-//! exit status.
+//! The rules of `mxfetch save`: lists of URLs, one a line, that are read as the work goes on; what is asked of each URL; after which ends a body
+//! is saved, or the URL is tried again, and after how long; what is printed, a line for each URL; and the exit status.
 #![tactic(auto)]
 
 mod asking;

@@ -1,8 +1,8 @@
 use Rattle.std.proofs.Common.{◌≡◌, ◌≢◌, ap, arith, length, map, subst, sym, true}
 use Rattle.std.specs.Prelude.{OnOk}
 use Rattle.std.proofs.lemmas.List.{length-map}
-use Rattle.mx_failure_text.specs.Lines.{Writes}
-use Rattle.mx_get_text.specs.Asking.{asked_for}
+use Rattle.mx_text.specs.Lines.{Writes}
+use Rattle.mx_text.specs.Asking.{asked_for}
 use Rattle.mx_run_io.specs.Ends.{Wrote, has_failed_write}
 use Rattle.mx_run_get.proofs.Runs.{all_printed, answers, explains, first_printed}
 use Rattle.mx_run_get.proofs.Texts.{no_more}

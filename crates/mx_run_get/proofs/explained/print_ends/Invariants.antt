@@ -1,6 +1,6 @@
 use Rattle.std.proofs.Common.{take, map}
 use Rattle.mx_run_io.specs.Ends.{Wrote}
-use Rattle.mx_failure_text.specs.Lines.{Writes}
+use Rattle.mx_text.specs.Lines.{Writes}
 use Rattle.mx_run_get.specs.Explained.{AreEndTexts}
 use Rattle.mx_run_get.proofs.explained.print_ends.Given as goal
 

@@ -1,6 +1,6 @@
 use Rattle.std.proofs.Common.{◌≡◌, ◌≢◌, ◌∙◌, ◌++◌, true, false, ℕ, List, [], ap, length, sym, subst}
 use Rattle.mx_chain.specs.Outcomes.{OutcomeValue}
-use Rattle.mx_get_text.specs.Failures.{IsFlowingWhy}
+use Rattle.mx_text.specs.Failures.{IsFlowingWhy}
 use Rattle.mx_run_io.specs.Ends.{has_failed_write}
 use Rattle.mx_run_get_body.specs.Bodies.{IsWritten}
 use Rattle.mx_run_get_body.proofs.Bodies.{both_none, none_both, told_as, was_ok, where_failed, where_ok, written}

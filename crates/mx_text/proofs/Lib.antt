@@ -1,0 +1,6 @@
+mod Building
+pub mod Kept
+mod Printed
+mod Reasons
+mod Steps
+mod Telling
