@@ -3,7 +3,7 @@ ghost use Rattle.std.specs.Prelude.{◌≡◌, ◌<◌, ◌≤◌, List, ◌∷�
 
 use crate::errors::FolderError;
 use crate::steps::Kind;
-use mx_folder::{FileName, PartName};
+use crate::{FileName, PartName};
 
 /// A part: a file that a folder made, which is to get its final name once it is whole. It is a value of its own, so the folder can be used
 /// while it is written. One that is dropped stays in its folder.

@@ -11,7 +11,7 @@ use crate::folders::{Folder, PartFile, Unplaced};
 use crate::log::{Refusals, StepLog};
 use crate::past::{Past, bytes_of, note_all};
 use crate::steps::{FolderCall, Kind, Step, refused};
-use mx_folder::{FileName, PartName};
+use crate::{FileName, PartName};
 use mx_types::{History, OutOfMemory};
 use std::alloc::{AllocError, Global};
 use std::marker::Model;

@@ -9,7 +9,7 @@ use crate::limit::{front, most_bytes};
 use crate::log::{Refusals, StepLog};
 use crate::past::{Past, bytes_of, note_all};
 use crate::steps::{FolderCall, Kind, Step, done, looked};
-use mx_folder::{FileName, PartName};
+use crate::{FileName, PartName};
 use mx_types::History;
 use std::alloc::Global;
 use std::fs::{File, OpenFile};

@@ -6,8 +6,8 @@ ghost use Rattle.mx_text.specs.Lines.{Writes};
 ghost use Rattle.mx_run_get.specs.Explained.{IsEndText, AreEndTexts, IsRunText};
 
 use crate::printed::PrintedEnd;
-use mx_text::{print_failure, print_file_limit, Fetched};
 use mx_run_io::{Output, WriteFailed};
+use mx_text::{Fetched, print_failure, print_file_limit};
 use mx_types::Code;
 use std::io::Write;
 

@@ -3,8 +3,8 @@ ghost use Rattle.std.specs.Prelude.{◌≡◌, ℕ, List, [], ◌∷◌, ◌++�
 ghost use Rattle.mx_text.specs.declared.fetched.Fetched.{Fetched as AnEnd};
 
 use crate::end::UrlEnd;
-use mx_text::Fetched;
 use mx_run_io::Stop;
+use mx_text::Fetched;
 
 /// What takes the ends of URLs, in their order.
 pub trait TakeEnds {

@@ -2,10 +2,10 @@
 ghost use Rattle.std.specs.Prelude.{◌≡◌, ◌+◌, ◌-◌, ◌^◌, ◌<◌, ◌≤◌, IfOk, take};
 ghost use Rattle.mx_run_save.specs.Screens.{period_ms, progress_line};
 
-use mx_text::{print_failure, print_file_limit, print_words};
 use mx_run_io::Output;
 use mx_save_rules::{End, SaveCode};
 use mx_save_urls::{Standing, Watch};
+use mx_text::{print_failure, print_file_limit, print_words};
 use std::alloc::{AllocError, Global};
 use std::io::Write;
 

@@ -5,8 +5,8 @@ use crate::fakes::{Filler, Full, Pipe};
 use crate::long::{Long, add_long, bytes_of};
 use crate::tally::RowTally;
 use mx_responses_tests_base::bytes::{COUNTED, HEAD};
-use mx_run_body::{MOST_READS, run_body};
 use mx_run_io::{Input, Output};
+use mx_run_local::{MOST_BODY_READS, run_body};
 use mx_types::Method;
 use std::alloc::{AllocError, Global};
 use std::io::{BufWriter, Read, Write};
@@ -21,7 +21,7 @@ pub(crate) fn run<R: Read + Drop, W: Write + Drop>(
     run_body(
         alloc,
         method,
-        &mut Input::new(reader, MOST_READS),
+        &mut Input::new(reader, MOST_BODY_READS),
         &mut Output::new(writer),
     )
 }

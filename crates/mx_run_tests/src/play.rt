@@ -5,7 +5,7 @@
 use crate::fakes::{Full, PieceReader, Pipe};
 use crate::tally::RowTally;
 use mx_run_io::{Input, Output};
-use mx_run_play::{MOST_READS, run_play};
+use mx_run_local::{MOST_SCRIPT_READS, run_play};
 use std::alloc::{AllocError, Global};
 use std::io::{BufWriter, Read, Write};
 
@@ -16,7 +16,7 @@ fn run<R: Read + Drop, W: Write + Drop>(
     most: u64,
     writer: W,
 ) -> Option<u8> {
-    if most > MOST_READS {
+    if most > MOST_SCRIPT_READS {
         return None;
     }
     Some(run_play(
@@ -67,11 +67,11 @@ fn see_failing_reads(alloc: Global, tally: &mut RowTally) -> Result<(), AllocErr
     for fault in &FAULTS {
         let (first, last, printed) = *fault;
         for reads in first..=last {
-            let is_right = plays(alloc, (SCRIPT, reads, MOST_READS, printed, 56));
+            let is_right = plays(alloc, (SCRIPT, reads, MOST_SCRIPT_READS, printed, 56));
             tally.hold("a read that fails", is_right)?;
         }
     }
-    let is_right = plays(alloc, (SCRIPT, 35, MOST_READS, REPLIES, 0));
+    let is_right = plays(alloc, (SCRIPT, 35, MOST_SCRIPT_READS, REPLIES, 0));
     tally.hold("bytes that trickle in", is_right)
 }
 
@@ -114,7 +114,7 @@ fn answers_full(alloc: Global, row: Written<'_>, writes: u8) -> Option<u8> {
         taken: &mut taken,
         writes,
     };
-    let answer = run(alloc, trickle(SCRIPT, reads), MOST_READS, writer);
+    let answer = run(alloc, trickle(SCRIPT, reads), MOST_SCRIPT_READS, writer);
     let is_whole = answer == Some(status) && taken.as_slice() == printed.as_bytes();
     if is_whole || answer == Some(121) && printed.as_bytes().starts_with(&taken) {
         answer
@@ -145,7 +145,7 @@ fn see_failing_writes(alloc: Global, tally: &mut RowTally) -> Result<(), AllocEr
 
 /// Whether a writer answers to a short script that it couldn't be written.
 fn is_unwritten<W: Write + Drop>(alloc: Global, writer: W) -> bool {
-    run(alloc, SCRIPT.as_bytes(), MOST_READS, writer) == Some(121)
+    run(alloc, SCRIPT.as_bytes(), MOST_SCRIPT_READS, writer) == Some(121)
 }
 
 /// Whether it does with a buffer before it.
@@ -216,7 +216,7 @@ const PRINTED_BEHIND: &str =
 /// Whether `play` prints that of a script, and ends well.
 fn plays_whole(alloc: Global, script: &str, printed: &str) -> bool {
     let mut written = Vec::new(alloc);
-    let ended = run(alloc, script.as_bytes(), MOST_READS, &mut written);
+    let ended = run(alloc, script.as_bytes(), MOST_SCRIPT_READS, &mut written);
     ended == Some(0) && written.as_slice() == printed.as_bytes()
 }
 

@@ -5,9 +5,8 @@ ghost use Rattle.mx_command.specs.Asked.{IsTask};
 use crate::escapes::SeenText;
 use crate::words::words_of;
 use mx_command::{Asked, Task, read_command};
-use mx_run_body::{MOST_READS, run_body, run_body_explained};
 use mx_run_io::{Input, Output};
-use mx_run_play::run_play;
+use mx_run_local::{MOST_BODY_READS, run_body, run_body_explained, run_play};
 use mx_types::Method;
 use std::alloc::{AllocError, Global};
 
@@ -24,7 +23,7 @@ fn decode(alloc: Global, method: Method, input: &[u8]) -> Written {
     let status = run_body(
         alloc,
         method,
-        &mut Input::new(input, MOST_READS),
+        &mut Input::new(input, MOST_BODY_READS),
         &mut Output::new(&mut written),
     );
     Written {
@@ -42,7 +41,7 @@ fn play(alloc: Global, history: u32, first: u32, input: &[u8]) -> Written
         alloc,
         history,
         first,
-        &mut Input::new(input, mx_run_play::MOST_READS),
+        &mut Input::new(input, mx_run_local::MOST_SCRIPT_READS),
         &mut Output::new(&mut written),
     );
     Written {
@@ -58,7 +57,7 @@ fn explain(alloc: Global, method: Method, input: &[u8]) -> Written {
     let status = run_body_explained(
         alloc,
         method,
-        &mut Input::new(input, MOST_READS),
+        &mut Input::new(input, MOST_BODY_READS),
         &mut Output::new(&mut written),
         &mut Output::new(&mut told),
     );

@@ -1,9 +1,9 @@
 //! Transfers that ended, from scripted links.
 use futures::task::Poll;
 use futures::test::MockTask;
-use mx_text::Fetched;
 use mx_link::{ScriptLink, ScriptRead};
 use mx_request::Request;
+use mx_text::Fetched;
 use mx_transfer::Transfer;
 use mx_types::{Code, Method, Settings};
 use std::alloc::Global;

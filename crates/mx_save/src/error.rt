@@ -5,7 +5,7 @@ ghost use Rattle.mx_save.specs.Ledgers.{is_taken};
 ghost use Rattle.mx_save.specs.Words.{save_words, is_create};
 ghost use Rattle.mx_save.specs.declared.error.SaveError.TheVariants as errors;
 
-use mx_folder::{PartName, FolderError};
+use mx_folder::{FolderError, PartName};
 use std::error::Error;
 use std::fmt;
 

@@ -19,7 +19,7 @@ use crate::error::{Discarded, PartError, SaveError, Unsaved};
 use crate::made::Made;
 use crate::parts_out::Out;
 use crate::save::{place_part, remove_part};
-use mx_folder::{FileName, PartName, Folder, FolderError, Kind, Past};
+use mx_folder::{FileName, Folder, FolderError, Kind, PartName, Past};
 use std::alloc::Global;
 use std::marker::Model;
 use std::snapshot::Snapshot;

@@ -5,7 +5,7 @@ ghost use Rattle.mx_folder.specs.Names.{part_of};
 ghost use Rattle.mx_save.specs.Made.{without};
 
 use crate::parts_out::Out;
-use mx_folder::{PartName, FolderError, PartFile};
+use mx_folder::{FolderError, PartFile, PartName};
 use std::marker::Model;
 
 /// A part that a ledger made, whose name has the ledger's process and a number. The ledger gives it its final name, or removes it. A part that

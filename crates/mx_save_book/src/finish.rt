@@ -14,11 +14,11 @@ ghost use Rattle.mx_save_book.specs.declared.finish.NotEnded.TheVariants as not_
 use crate::job::Job;
 use mx_chain::Outcome;
 use mx_folder::{Folder, FolderError, PartFile};
-use mx_save::{PartSink, Ledger, Made};
-use mx_save_rules::{Asking, Decision, End, SaveCode};
+use mx_save::{Ledger, Made, PartSink};
 use mx_save_end::{
     Heard, Spool, WholeBody, Written, failed_end, left_end, unsaved_end, written_of,
 };
+use mx_save_rules::{Asking, Decision, End, SaveCode};
 use mx_sink::{Delivery, Outlet};
 use std::alloc::{AllocError, Global};
 use std::snapshot::Snapshot;

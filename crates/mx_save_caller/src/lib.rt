@@ -12,8 +12,8 @@ use mx_crew::Runtime;
 use mx_folder::Folder;
 use mx_run_save::{Saved, save_in};
 use mx_save_book::{Asking, Lines};
-use mx_save_urls::Watch;
 use mx_save_rules::UrlList;
+use mx_save_urls::Watch;
 use std::io::{Read, Write};
 use std::net::{Net, TcpListener, TcpStream};
 

@@ -7,10 +7,10 @@ ghost use Rattle.mx_save_rules.specs.declared.code.SaveCode.TheVariants as save;
 ghost use Rattle.mx_save_end.specs.Said.{IsFailedWith, folder_code, unsaved_code};
 
 use crate::words::{failure_words, left_words};
-use mx_text::FailureReport;
 use mx_folder::FolderError;
 use mx_save::{Discarded, SaveError, Unsaved};
 use mx_save_rules::{End, SaveCode, Transferred};
+use mx_text::FailureReport;
 use mx_types::Code;
 use std::alloc::{AllocError, Global};
 

@@ -7,10 +7,10 @@ ghost use Rattle.mx_save_end.specs.Framings.{IsStepped, TellsFraming, word_of};
 
 use mx_body::MOST_INTERIM;
 use mx_chain::Outcome;
-use mx_text::last_method;
 use mx_head::{Framing, HeadStep, framing, read_head};
 use mx_save_rules::FramingWord;
 use mx_sink::Delivery;
+use mx_text::last_method;
 use mx_types::{Code, Method};
 
 /// 101 Switching Protocols (RFC 9110, section 15.2.2): after it the connection speaks another protocol.

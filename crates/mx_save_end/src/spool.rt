@@ -6,7 +6,7 @@ ghost use Rattle.mx_sink.specs.Outlets.{handed_of};
 
 use mx_chain::Outcome;
 use mx_folder::{Folder, FolderError, PartFile};
-use mx_save::{PartSink, Unfinished, Made};
+use mx_save::{Made, PartSink, Unfinished};
 use mx_sink::{Outlet, Sink, Window};
 
 /// Where the body of a URL goes as it comes: to a part in the folder.

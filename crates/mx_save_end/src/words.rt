@@ -5,8 +5,8 @@ ghost use Rattle.mx_text.specs.Words.{told_text};
 ghost use Rattle.mx_save.specs.Words.{left_text};
 ghost use Rattle.mx_save_end.specs.Said.{IsSaidBy};
 
-use mx_text::FailureReport;
 use mx_save::Discarded;
+use mx_text::FailureReport;
 use mx_types::Code;
 use std::alloc::{AllocError, Global};
 

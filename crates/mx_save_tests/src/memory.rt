@@ -3,7 +3,7 @@ ghost use Rattle.std.specs.Prelude.{◌<◌, ◌≢◌};
 
 use crate::bodies::{BYE, HELLO, is_same, name_of, none_of};
 use crate::parts::{save, save_alone};
-use mx_folder::{FileName, PartName, part_name, Folder, FolderError, Kind, MemoryFolder};
+use mx_folder::{FileName, Folder, FolderError, Kind, MemoryFolder, PartName, part_name};
 use mx_save::{Ledger, SaveError, Unsaved};
 use mx_types::OutOfMemory;
 use std::alloc::{AllocError, Global};

@@ -1,7 +1,9 @@
 //! A sink that writes to a part of a folder in memory, whose calls are counted.
 
 use crate::sink_bodies::{body_of, give, is_same, none_of};
-use mx_folder::{FileName, file_name, part_name, Folder, FolderError, MemoryFolder, MemoryPart, Unplaced};
+use mx_folder::{
+    FileName, Folder, FolderError, MemoryFolder, MemoryPart, Unplaced, file_name, part_name,
+};
 use mx_save::{PartSink, Unfinished};
 use mx_sink::SinkError;
 use mx_types::OutOfMemory;

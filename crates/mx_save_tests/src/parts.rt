@@ -6,7 +6,7 @@ ghost use Rattle.mx_save.specs.Ledgers.{IsFresh};
 
 use crate::sink_bodies::give;
 use mx_folder::{FileName, Folder, FolderError, PartFile};
-use mx_save::{PartSink, Unfinished, Body, Discarded, Ledger, Made, SaveError, Unsaved};
+use mx_save::{Body, Discarded, Ledger, Made, PartSink, SaveError, Unfinished, Unsaved};
 use mx_sink::Sink;
 use std::alloc::{AllocError, Global};
 use std::snapshot::Snapshot;

@@ -3,7 +3,7 @@
 //! a part does without memory to gather pieces. Without a refusal each test passes.
 
 use crate::sink_bodies::{body_of, give, is_same};
-use mx_folder::{file_name, part_name, Folder, FolderError, MemoryFolder, MemoryPart};
+use mx_folder::{Folder, FolderError, MemoryFolder, MemoryPart, file_name, part_name};
 use mx_save::PartSink;
 use mx_sink::{MemorySink, SinkError};
 use mx_types::OutOfMemory;

@@ -3,7 +3,9 @@
 use crate::bodies::{BYE, HELLO, Pieces, is_same, name_of};
 use crate::parts::{How, save_alone};
 use crate::three_parts::{Order, Three, is_told, save_three, three_names};
-use mx_folder::{FileName, PartName, part_name, Folder, FolderError, Kind, PartFile, SystemFolder, Unplaced};
+use mx_folder::{
+    FileName, Folder, FolderError, Kind, PartFile, PartName, SystemFolder, Unplaced, part_name,
+};
 use mx_save::{SaveError, Unsaved};
 use mx_types::OutOfMemory;
 use std::alloc::Global;

@@ -4,9 +4,9 @@ use Rattle.mx_types.specs.Code.{code_number}
 use Rattle.mx_types.specs.declared.code.Code.TheVariants as codes
 use Rattle.mx_head.specs.Limits.{most_bytes}
 use Rattle.mx_run_io.specs.Faults.{PrintsFault}
-use Rattle.mx_run_body.specs.Reading.{ReadsUpTo}
-use Rattle.mx_run_body.specs.Run.{AnswersRead}
-use Rattle.mx_run_play.specs.Run.{AnswersScript, PrintsUnread, fresh, most_script_reads}
+use Rattle.mx_run_local.specs.Reading.{ReadsUpTo}
+use Rattle.mx_run_local.specs.Body.{AnswersRead}
+use Rattle.mx_run_local.specs.Run.{AnswersScript, PrintsUnread, fresh, most_script_reads}
 use Rattle.mx_command.specs.declared.task.Task.{Task as Tasks}
 use Rattle.mx_command.specs.declared.task.Task.TheVariants.{Body, Play}
 

@@ -13,10 +13,10 @@ use crate::task::{most_reads, run_task};
 use clap::Error;
 use clap::error::ErrorKind;
 use mx_command::{Asked, Get, Task, hint_of, read_command};
-use mx_run_body::{MOST_READS, run_body_explained};
 use mx_run_get::{MOST_URLS, Runtime, run_get, run_get_explained};
 use mx_run_get_body::run_get_body;
 use mx_run_io::{Input, Output, UNWRITTEN, end_with};
+use mx_run_local::{MOST_BODY_READS, run_body_explained};
 use mx_run_save::{REFUSED, Screen, refuse_save, run_save};
 use mx_types::{Code, Method, OUT_OF_MEMORY};
 use std::env::FillError;
@@ -130,7 +130,7 @@ fn run_explained<R: io::Input + Print + AllocGlobal, E: Write + Drop>(
     method: Method,
     stderr: E,
 ) -> u8 {
-    let mut input = Input::new(rt.reader(), MOST_READS);
+    let mut input = Input::new(rt.reader(), MOST_BODY_READS);
     match BufWriter::with_capacity(rt.alloc(), 65_536, io::writer(rt)) {
         Ok(writer) => run_body_explained(
             rt.alloc(),

@@ -1,14 +1,13 @@
 //! The run of a task.
 ghost use Rattle.std.specs.Prelude.{◌≡◌, ◌≢◌, ◌≤◌, true};
 ghost use Rattle.mx_run_io.specs.Ends.{reader_of, reads_of, most_reads_of, has_failed_read, has_failed_write, Wrote, EndsRun};
-ghost use Rattle.mx_run_play.specs.Run.{WasAsked};
+ghost use Rattle.mx_run_local.specs.Run.{WasAsked};
 ghost use Rattle.mx_command.specs.Asked.{IsTask};
 ghost use Rattle.mxfetch.specs.Tasks.{most_reads, AnswersTask, PrintsFailedRead, StopsReading};
 
 use mx_command::Task;
-use mx_run_body::run_body;
 use mx_run_io::{Input, Output};
-use mx_run_play::run_play;
+use mx_run_local::{run_body, run_play};
 use std::alloc::Global;
 use std::io::{Read, Write};
 
@@ -17,8 +16,8 @@ pub(crate) fn most_reads(task: Task) -> u64
     ensures { result ≡ most_reads task }
 {
     match task {
-        Task::Body(_) => mx_run_body::MOST_READS,
-        Task::Play { .. } => mx_run_play::MOST_READS,
+        Task::Body(_) => mx_run_local::MOST_BODY_READS,
+        Task::Play { .. } => mx_run_local::MOST_SCRIPT_READS,
     }
 }
 

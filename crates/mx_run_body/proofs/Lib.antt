@@ -1,6 +1,0 @@
-mod PartsWithin
-mod WasRead
-mod Printed
-mod Received
-mod Gathered
-mod Explaining

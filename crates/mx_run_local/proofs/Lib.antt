@@ -1,0 +1,11 @@
+mod Ending
+mod Explaining
+mod Gathered
+mod PartsWithin
+mod Places
+mod Printed
+mod Received
+mod ScriptReading
+mod Sessions
+mod WasRead
+mod Words

@@ -1,5 +1,0 @@
-mod Words
-mod Places
-mod Sessions
-mod Reading
-mod Ending

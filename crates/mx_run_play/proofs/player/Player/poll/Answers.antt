@@ -1,5 +1,0 @@
-use Rattle.std.proofs.Common.{rules}
-use Rattle.mx_run_play.proofs.player.Player.poll.Goals as goal
-
-pub returns-then-not-poll_ready : goal.returns-then-not-poll_ready
-returns-then-not-poll_ready c = search rules
