@@ -84,13 +84,13 @@ fn fill<'m, L: Link, D: Delivery, G: Gate<Link = L> + Drop>(
 
 // What a worker counted, and its seat then.
 #[derive(Drop)]
-struct Done<L: Link, D: Delivery> {
+struct SlotEnd<L: Link, D: Delivery> {
     counts: Counts,
     last: SeatThen<L, D>,
 }
 
 // What a worker did. Its seat is dropped.
-fn done_of<L: Link, D: Delivery>(end: WorkerEnd<'_, L, D>) -> Done<L, D>
+fn done_of<L: Link, D: Delivery>(end: WorkerEnd<'_, L, D>) -> SlotEnd<L, D>
     ensures seat { result.last.value ≡ end.entry.seat }
     ensures counts { result.counts ≡ record { recorded = end.entry.recorded; stale = end.entry.stale; given_back = end.entry.given_back } }
 {
@@ -104,7 +104,7 @@ fn done_of<L: Link, D: Delivery>(end: WorkerEnd<'_, L, D>) -> Done<L, D>
     let seat = seat.into_seat();
     let last = Snapshot::of(&seat);
     drop(seat);
-    Done {
+    SlotEnd {
         counts: Counts {
             recorded,
             stale,
@@ -121,7 +121,7 @@ fn work_once<'m, L: Link, D: Delivery, R: Wait + RandomSource + AllocGlobal, G: 
     rt: &R,
     seat: Seated<'m, AtWork, Queued<L, D>, Outcome<D>>,
     gate: &mut G,
-) -> Result<Done<L, D>, Seated<'m, AtWork, Queued<L, D>, Outcome<D>>>
+) -> Result<SlotEnd<L, D>, Seated<'m, AtWork, Queued<L, D>, Outcome<D>>>
     ensures ends { IfOk result (λ done. EndsTry L.history L.token_of seat.entry done.last.value (G.said gate.old) (G.said gate.new) done.counts) }
     ensures again { IfErr result (λ again. (again ≡ seat.entry) × (G.said gate.new ≡ G.said gate.old ++ waited again_ms false ∷ [])) }
 {
@@ -138,7 +138,7 @@ fn work_on<'m, L: Link, D: Delivery, R: Wait + RandomSource + AllocGlobal, G: Ga
     rt: &R,
     seat: Seated<'m, AtWork, Queued<L, D>, Outcome<D>>,
     gate: &mut G,
-) -> Done<L, D>
+) -> SlotEnd<L, D>
     requires { G.said gate.old ≡ [] }
     ensures { HasWorked L.history L.token_of seat.entry result.last.value (G.said gate.new) result.counts }
 {

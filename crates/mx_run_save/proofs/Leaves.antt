@@ -16,7 +16,7 @@ use Rattle.mx_save_rules.specs.declared.end.Verdict.TheVariants as verdict
 use Rattle.mx_command.specs.declared.save.Save.{Save}
 use Rattle.mx_save_end.specs.Bodies.{IsWholeBody, body_of}
 use Rattle.mx_save_book.specs.Jobs.{AreWhole, HoldsOf, IsTold}
-use Rattle.mx_save_book.specs.Lines.{LinesValue, PrintedEndValue}
+use Rattle.mx_save_book.specs.Lines.{LinesValue, PrintedLineValue}
 use Rattle.mx_save_rules.specs.declared.asking.Asking.{Asking}
 use Rattle.mx_run_save.specs.Saved.{TellsOfFolder}
 use Rattle.mx_run_save.specs.Told.{HoldsWhole, IsThere, LeavesTruly, MayLeaveWhole}
@@ -67,7 +67,7 @@ pub leaves_truly : {W : Type 0} (save : Save) (asking : Asking) (given : Option 
 leaves_truly save asking given old new lines tells =
     let run = tells.run in
     let l = run.ledger in
-    let told = λ (t : PrintedEndValue) (has : Contains lines.told t). member (IsTold asking tells.told.urls l) lines.told t tells.told.told has in
+    let told = λ (t : PrintedLineValue) (has : Contains lines.told t). member (IsTold asking tells.told.urls l) lines.told t tells.told.told has in
     record {
       run = run;
       urls = tells.told.urls;

@@ -3,7 +3,7 @@ use Rattle.std.specs.Prelude.{◌≡◌, ◌⊎◌, ℕ, true, List, Option, Som
 use Rattle.mx_folder.specs.declared.errors.FolderError.{FolderError}
 use Rattle.mx_folder.specs.declared.steps.Step.{Step}
 use Rattle.mx_command.specs.declared.save.Save.{Save}
-use Rattle.mx_save_book.specs.Lines.{PrintedEndValue}
+use Rattle.mx_save_book.specs.Lines.{PrintedLineValue}
 use Rattle.mx_save_rules.specs.declared.asking.Asking.{Asking}
 use Rattle.mx_run_io.specs.declared.stop.Stop.{Stop}
 use Rattle.mx_run_save.specs.Asked.{IsAskedBy, IsBodyFile, IsRefusedAlways}
@@ -18,7 +18,7 @@ pub record IsRun (save : Save) (old : List Step) (status : ℕ) : Type 0 where
   pub listed : Option (List (List ℕ))
   pub unlisted : save.input ≡ None → listed ≡ Some []
   pub new : List Step
-  pub told : List PrintedEndValue
+  pub told : List PrintedLineValue
   pub stopped : Result Unit Stop
   pub flushed : Result Unit FolderError
   pub saves : OnOk stopped (SavesIn save asking (urls_of save listed) old new told)

@@ -7,7 +7,7 @@ use Rattle.mx_command.specs.declared.save.Save.{Save}
 use Rattle.mx_save_end.specs.Bodies.{body_of}
 use Rattle.mx_save_book.specs.Books.{HaveEnded}
 use Rattle.mx_save_book.specs.Jobs.{AreWhole}
-use Rattle.mx_save_book.specs.Lines.{LinesValue, PrintedEndValue}
+use Rattle.mx_save_book.specs.Lines.{LinesValue, PrintedLineValue}
 use Rattle.mx_save_rules.specs.declared.asking.Asking.{Asking}
 use Rattle.mx_save_urls.specs.Runs.{TellsTruly}
 
@@ -30,7 +30,7 @@ pub record RunLedger (save : Save) (old new : List Step) : Type 0 where
 -- rule save-each-once
 -- Each URL has ended, and was printed once: where it is known which URLs there were, these are the ones. What was saved is in the folder, by its
 -- ledger.
-pub record SavesIn (save : Save) (asking : Asking) (given : Option (List (List ℕ))) (old new : List Step) (told : List PrintedEndValue) : Type 0 where
+pub record SavesIn (save : Save) (asking : Asking) (given : Option (List (List ℕ))) (old new : List Step) (told : List PrintedLineValue) : Type 0 where
   pub run : RunLedger save old new
   pub urls : List (List ℕ)
   pub all : (every : List (List ℕ)) → given ≡ Some every → every ≡ urls

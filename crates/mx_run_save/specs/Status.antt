@@ -2,7 +2,7 @@
 use Rattle.std.specs.Prelude.{◌≡◌, ◌≢◌, ◌⊎◌, ℕ, List, map, None, Result, IfErr, IsErr, OnOk}
 use Rattle.mx_folder.specs.declared.errors.FolderError.{FolderError}
 use Rattle.mx_save_rules.specs.Status.{after_notes, status_of}
-use Rattle.mx_save_book.specs.Lines.{PrintedEndValue, note_of}
+use Rattle.mx_save_book.specs.Lines.{PrintedLineValue, note_of}
 use Rattle.mx_run_io.specs.declared.stop.Stop.{Stop}
 use Rattle.mx_run_io.specs.declared.stop.Stop.TheVariants as stop
 
@@ -13,12 +13,12 @@ stop_number stop.Unread = 26
 stop_number _ = 27
 
 -- by the codes that were printed: the first that isn't 0, in the order of the URLs
-abbrev pub codes_number : List PrintedEndValue → ℕ
+abbrev pub codes_number : List PrintedLineValue → ℕ
 codes_number told = status_of (after_notes None (map note_of told))
 
 -- of a run that has ended: where it stopped, by why it did; else by the codes that were printed, but 23 where each of these is 0 and the
 -- folder couldn't be flushed
-pub record IsStatusOf (stopped : Result Unit Stop) (flushed : Result Unit FolderError) (told : List PrintedEndValue) (status : ℕ) : Type 0 where
+pub record IsStatusOf (stopped : Result Unit Stop) (flushed : Result Unit FolderError) (told : List PrintedLineValue) (status : ℕ) : Type 0 where
   pub early : IfErr stopped (λ stop. status ≡ stop_number stop)
   pub failed : OnOk stopped (codes_number told ≢ 0 → status ≡ codes_number told)
   pub unflushed : OnOk stopped (codes_number told ≡ 0 → IsErr flushed → status ≡ 23)

@@ -15,7 +15,7 @@ use Rattle.mx_command.specs.declared.save.Save.{Save}
 use Rattle.mx_save_end.specs.Bodies.{IsWholeBody, body_of}
 use Rattle.mx_save_end.specs.Heard.{body_length}
 use Rattle.mx_save_book.specs.Jobs.{Asks, IsTold}
-use Rattle.mx_save_book.specs.Lines.{PrintedEndValue}
+use Rattle.mx_save_book.specs.Lines.{PrintedLineValue}
 use Rattle.mx_save_rules.specs.declared.asking.Asking.{Asking}
 use Rattle.mx_run_save.specs.Saved.{RunLedger}
 
@@ -45,12 +45,12 @@ MayLeaveWhole old new = (found : List ℕ → Option File) (name bytes : List �
 -- its body is there. Each name of a file held at each moment what it held before or the whole body of a response to the last request of a chain,
 -- which a loss of power leaves, too, where bodies are flushed. No part is left but those that the folder refused to remove in the run. The URLs are those
 -- that were read: where it is known which there were, the first of these.
-pub record LeavesTruly (save : Save) (asking : Asking) (given : Option (List (List ℕ))) (old new : List Step) (told : List PrintedEndValue) : Type 0 where
+pub record LeavesTruly (save : Save) (asking : Asking) (given : Option (List (List ℕ))) (old new : List Step) (told : List PrintedLineValue) : Type 0 where
   pub run : RunLedger save old new
   pub urls : List (List ℕ)
   pub first : (every : List (List ℕ)) → given ≡ Some every → (rest : List (List ℕ)) × (every ≡ urls ++ rest)
-  pub each : (t : PrintedEndValue) → Contains told t → IsTold asking urls run.ledger t
-  pub there : (t : PrintedEndValue) → Contains told t → t.end.verdict ≡ verdict.Saved → IsThere asking save.flags.fsync new t.end
+  pub each : (t : PrintedLineValue) → Contains told t → IsTold asking urls run.ledger t
+  pub there : (t : PrintedLineValue) → Contains told t → t.end.verdict ≡ verdict.Saved → IsThere asking save.flags.fsync new t.end
   pub files : AtEachMoment (HoldsWhole save.flags.fsync old) old new
   pub power : save.flags.fsync ≡ true → MayLeaveWhole old new
   pub parts : LeavesOnly run.ledger.left old new

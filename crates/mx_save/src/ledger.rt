@@ -39,7 +39,7 @@ fn note_left(all: &mut Past<Snapshot<PartName>>, part: &PartName, left: Option<F
 
 // A body that was saved, and its name, for contracts alone.
 #[derive(Drop)]
-struct Entry<B> {
+struct SavedBody<B> {
     name: Snapshot<FileName>,
     body: Snapshot<B>,
 }
@@ -62,7 +62,7 @@ pub struct Ledger<F: Folder, B: Body> {
     flush: bool,
     folder: F,
     start: Snapshot<F>,
-    saved: Past<Entry<B>>,
+    saved: Past<SavedBody<B>>,
     out: Out,
     left: Past<Snapshot<PartName>>,
 }
@@ -274,7 +274,7 @@ impl<F: Folder, B: Body> Ledger<F, B> {
         name.know();
         match place_part(&mut self.folder, file, name, self.flush) {
             Ok(()) => {
-                self.saved.note(Entry {
+                self.saved.note(SavedBody {
                     name: Snapshot::of(name),
                     body,
                 });

@@ -27,7 +27,7 @@ use Rattle.mx_save_book.specs.declared.job.Slot.{Slot}
 use Rattle.mx_save_book.specs.declared.job.Slot.TheVariants as slot
 use Rattle.mx_save_book.proofs.Calls.{calls_later}
 use Rattle.mx_save_book.specs.Jobs.{told_refusals, AreNamed, AreWhole, CanAsk, GrowsBy, GrowsFor, HasEnded, HasFound, HoldsBy, HoldsOf, IsAccount, IsBook, IsFailedBy, IsFailedEnd, IsFailedTransfer, IsLaterLedger, IsLeftEnd, IsUnmadeEnd, IsUnsavedEnd, AreOut, IsNameAt, IsTold, IsTry, MayName, Pends, Refuses, Saves, State, is_saved, is_taken, is_told_saved, job_at, job_of, refused_end}
-use Rattle.mx_save_book.specs.Lines.{PrintedEndValue}
+use Rattle.mx_save_book.specs.Lines.{PrintedLineValue}
 use Rattle.mx_save_book.specs.Books.{HaveEnded}
 use Rattle.mx_save_book.proofs.Names.{all_given_more, fresh_on, given_more, given_new, given_on, is_fresh, is_new, saved_on, whole_on}
 use Rattle.mx_save_book.proofs.Slots.{as_many, cases, fresh_count, fresh_none, inside, none, one_less, one_more, stays, there}
@@ -263,13 +263,13 @@ holds_on asking name old new e verdict.Skipped grows later h =
     record { asked = h.asked; name = h.name; file = h.file; found = found_on old new h.name later h.found; untried = h.untried }
 holds_on asking name old new e verdict.Failed grows later h = failed_on asking old new e later h
 
-pub told_on : (asking : Asking) (urls : List (List ℕ)) (name : List ℕ) (old new : LedgerValue OutcomeValue) (ts : List PrintedEndValue) → GrowsBy name old.entries new.entries
+pub told_on : (asking : Asking) (urls : List (List ℕ)) (name : List ℕ) (old new : LedgerValue OutcomeValue) (ts : List PrintedLineValue) → GrowsBy name old.entries new.entries
     → IsLaterLedger old new → AllByRecursion (IsTold asking urls old) ts → AllByRecursion (IsTold asking urls new) ts
 told_on asking urls name old new ts grows later all =
     all_weaker (IsTold asking urls old) (IsTold asking urls new) ts
     (λ t h. record { url = h.url; name = h.name; end = h.end; holds = holds_on asking name old new t.end t.end.verdict grows later h.holds }) all
 
-told_more : (asking : Asking) (urls more : List (List ℕ)) (l : LedgerValue OutcomeValue) (ts : List PrintedEndValue)
+told_more : (asking : Asking) (urls more : List (List ℕ)) (l : LedgerValue OutcomeValue) (ts : List PrintedLineValue)
     → AllByRecursion (IsTold asking urls l) ts → AllByRecursion (IsTold asking (urls ++ more) l) ts
 told_more asking urls more l ts all =
     all_weaker (IsTold asking urls l) (IsTold asking (urls ++ more) l) ts
@@ -310,26 +310,26 @@ stopped_later b now s n m bases others name is asking urls told grows later =
 pub account : (b : State) (s : Bool) (n : ℕ) (bases : List (List ℕ)) → AreWhole b.ledger.entries → IsBook b n bases → AreOut b.ledger.out b.slots → IsAccount b s n bases
 account b s n bases whole is out = record { told = is.told; whole = whole; going = λ e. is; out = λ e. out }
 
-ended_more : (ts : List PrintedEndValue) (t : PrintedEndValue) (place : ℕ) → HasEnded ts place → HasEnded (ts ++ t ∷ []) place
+ended_more : (ts : List PrintedLineValue) (t : PrintedLineValue) (place : ℕ) → HasEnded ts place → HasEnded (ts ++ t ∷ []) place
 ended_more ts t place h = (h.0, Contains-append_left ts (t ∷ []) h.0 h.1, h.2)
 
-ended_now : (ts : List PrintedEndValue) (t : PrintedEndValue) (place : ℕ) → t.place ≡ place → HasEnded (ts ++ t ∷ []) place
+ended_now : (ts : List PrintedLineValue) (t : PrintedLineValue) (place : ℕ) → t.place ≡ place → HasEnded (ts ++ t ∷ []) place
 ended_now ts t place is = (t, Contains-push ts t, is)
 
 -- how many were reported as saved, one end further
 abbrev weigh : Bool → ℕ
 weigh b = cond b 1 0
 
-count_push : (ts : List PrintedEndValue) (t : PrintedEndValue) → count_by is_told_saved (ts ++ t ∷ []) ≡ count_by is_told_saved ts + weigh (is_told_saved t)
+count_push : (ts : List PrintedLineValue) (t : PrintedLineValue) → count_by is_told_saved (ts ++ t ∷ []) ≡ count_by is_told_saved ts + weigh (is_told_saved t)
 count_push ts t = sum_by_push (λ x. weigh (is_told_saved x)) ts t
 
-unsaved_more : (ts : List PrintedEndValue) (t : PrintedEndValue) → is_told_saved t ≡ false → count_by is_told_saved (ts ++ t ∷ []) ≡ count_by is_told_saved ts
+unsaved_more : (ts : List PrintedLineValue) (t : PrintedLineValue) → is_told_saved t ≡ false → count_by is_told_saved (ts ++ t ∷ []) ≡ count_by is_told_saved ts
 unsaved_more ts t is = omega (arith, count_push ts t, ap weigh is)
 
-saved_more : (ts : List PrintedEndValue) (t : PrintedEndValue) → is_told_saved t ≡ true → count_by is_told_saved (ts ++ t ∷ []) ≡ count_by is_told_saved ts + 1
+saved_more : (ts : List PrintedLineValue) (t : PrintedLineValue) → is_told_saved t ≡ true → count_by is_told_saved (ts ++ t ∷ []) ≡ count_by is_told_saved ts + 1
 saved_more ts t is = omega (arith, count_push ts t, ap weigh is)
 
-owed_on : (name : List ℕ) (old new : Saves) (ts : List PrintedEndValue) (t : PrintedEndValue) → GrowsFor name t.end.verdict old new → length old ≡ count_by is_told_saved ts
+owed_on : (name : List ℕ) (old new : Saves) (ts : List PrintedLineValue) (t : PrintedLineValue) → GrowsFor name t.end.verdict old new → length old ≡ count_by is_told_saved ts
     → length new ≡ count_by is_told_saved (ts ++ t ∷ [])
 owed_on name old new ts t grows owed =
     elim grows [
@@ -372,11 +372,11 @@ pends_more asking urls more named saves job p = record {
 }
 
 -- a URL was refused
-pub refused : (b : State) (read : ℕ) (bases : List (List ℕ)) (url : List ℕ) (why : RequestError) (e : EndValue) (ts : List PrintedEndValue) → IsBook b read bases
+pub refused : (b : State) (read : ℕ) (bases : List (List ℕ)) (url : List ℕ) (why : RequestError) (e : EndValue) (ts : List PrintedLineValue) → IsBook b read bases
     → ts ≡ b.told ++ record { place = read; end = e } ∷ [] → IsEnd e → e ≡ refused_end url why → Refuses b.asking url why
     → IsBook (record b { urls = b.urls ++ url ∷ []; told = ts }) (read + 1) bases
 refused b read bases url why e ts is more end same refuses =
-    let t : PrintedEndValue = record { place = read; end = e } in
+    let t : PrintedLineValue = record { place = read; end = e } in
     subst (λ l. IsBook (record b { urls = b.urls ++ url ∷ []; told = l }) (read + 1) bases) (sym more) (record {
       read = omega (arith, is.read, push_length b.urls url);
       bases = is.bases;
@@ -526,13 +526,13 @@ again b read bases at old new v is was now place url name tries =
     }
 
 -- a URL has ended
-pub closed : (b : State) (read : ℕ) (bases : List (List ℕ)) (at : ℕ) (job : Job) (e : EndValue) (ts : List PrintedEndValue) (l : LedgerValue OutcomeValue) → IsBook b read bases → ts ≡ b.told ++ record { place = job.place; end = e } ∷ [] → IsEnd e → job_at b.slots at ≡ Some job
+pub closed : (b : State) (read : ℕ) (bases : List (List ℕ)) (at : ℕ) (job : Job) (e : EndValue) (ts : List PrintedLineValue) (l : LedgerValue OutcomeValue) → IsBook b read bases → ts ≡ b.told ++ record { place = job.place; end = e } ∷ [] → IsEnd e → job_at b.slots at ≡ Some job
     → e.url ≡ job.url.items → MayName job.name e.file → GrowsFor job.name e.verdict b.ledger.entries l.entries → IsLaterLedger b.ledger l → HoldsOf b.asking l e e.verdict
     → IsBook (record b { slots = slice_set b.slots at slot.Free; told = ts; ledger = l }) read bases
 closed b read bases at job e ts l is more end was url may grows_for later holds =
     let grows = grows_by job.name e.verdict b.ledger.entries l.entries grows_for in
     let pends = is.pending at job was in
-    let t : PrintedEndValue = record { place = job.place; end = e } in
+    let t : PrintedLineValue = record { place = job.place; end = e } in
     subst (λ x. IsBook (record b { slots = slice_set b.slots at slot.Free; told = x; ledger = l }) read bases) (sym more) (record {
       read = is.read;
       bases = is.bases;
@@ -602,7 +602,7 @@ stood_as b read n bases us ns bs at job is more few u m s asks free place name f
     (subst (λ l. IsBook (record b { urls = us; named = l; slots = ss }) (read + 1) (bases ++ base_name job.url.items ∷ [])) (sym m)
     (subst (λ l. IsBook (record b { urls = l; named = b.named ++ job.url.items ∷ []; slots = ss }) (read + 1) (bases ++ base_name job.url.items ∷ [])) (sym u) book)))
 
-pub refused_as : (b : State) (read n : ℕ) (bases us : List (List ℕ)) (url : List ℕ) (why : RequestError) (e : EndValue) (ts : List PrintedEndValue) → IsBook b read bases → n ≡ read + 1
+pub refused_as : (b : State) (read n : ℕ) (bases us : List (List ℕ)) (url : List ℕ) (why : RequestError) (e : EndValue) (ts : List PrintedLineValue) → IsBook b read bases → n ≡ read + 1
     → us ≡ b.urls ++ url ∷ [] → ts ≡ b.told ++ record { place = read; end = e } ∷ [] → IsEnd e → e ≡ refused_end url why → Refuses b.asking url why
     → IsBook (record b { urls = us; told = ts }) n bases
 refused_as b read n bases us url why e ts is more u told_more_ end same refuses =

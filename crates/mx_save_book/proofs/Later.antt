@@ -7,17 +7,17 @@ use Rattle.mx_save.specs.Ledgers.{LedgerValue}
 use Rattle.mx_save_rules.specs.declared.asking.Asking.{Asking}
 use Rattle.mx_save_book.specs.Books.{HaveEnded}
 use Rattle.mx_save_book.specs.Jobs.{AreWhole, IsLaterLedger, IsTold}
-use Rattle.mx_save_book.specs.Lines.{PrintedEndValue}
+use Rattle.mx_save_book.specs.Lines.{PrintedLineValue}
 use Rattle.mx_save_book.proofs.Books.{told_on}
 
-pub told_later : (asking : Asking) (urls : List (List ℕ)) (old new : LedgerValue OutcomeValue) (ts : List PrintedEndValue) → new.entries ≡ old.entries → IsLaterLedger old new
+pub told_later : (asking : Asking) (urls : List (List ℕ)) (old new : LedgerValue OutcomeValue) (ts : List PrintedLineValue) → new.entries ≡ old.entries → IsLaterLedger old new
     → AllByRecursion (IsTold asking urls old) ts → AllByRecursion (IsTold asking urls new) ts
 told_later asking urls old new ts kept later all = told_on asking urls [] old new ts (inl kept) later all
 
 pub whole_later : (old new : LedgerValue OutcomeValue) → new.entries ≡ old.entries → AreWhole old.entries → AreWhole new.entries
 whole_later old new kept whole = subst AreWhole (sym kept) whole
 
-pub ended_later : (asking : Asking) (urls : List (List ℕ)) (old new : LedgerValue OutcomeValue) (ts : List PrintedEndValue) → new.entries ≡ old.entries → IsLaterLedger old new
+pub ended_later : (asking : Asking) (urls : List (List ℕ)) (old new : LedgerValue OutcomeValue) (ts : List PrintedLineValue) → new.entries ≡ old.entries → IsLaterLedger old new
     → HaveEnded asking urls old ts → HaveEnded asking urls new ts
 ended_later asking urls old new ts kept later is = record {
   holds = told_later asking urls old new ts kept later is.holds;

@@ -11,21 +11,21 @@ use Rattle.mx_run_io.specs.Ends.{Wrote, has_failed_write, is_pending, writer_of}
 use Rattle.mx_run_io.specs.declared.output.Output.{Output}
 use Rattle.mx_save_rules.specs.declared.status.ExitStatus.{ExitStatus}
 use Rattle.mx_save_rules.specs.declared.status.PlacedCode.{PlacedCode}
-use Rattle.mx_save_book.specs.Lines.{AreLines, LinesValue, PrintedEndValue, counted, last_of, line_of, note_of, tally_of, text_of}
+use Rattle.mx_save_book.specs.Lines.{AreLines, LinesValue, PrintedLineValue, counted, last_of, line_of, note_of, tally_of, text_of}
 use Rattle.mx_save_book.specs.declared.tally.Tally.{Tally}
 
-text_more : (json : Bool) (ts : List PrintedEndValue) (t : PrintedEndValue) → text_of json (ts ++ t ∷ []) ≡ text_of json ts ++ line_of json t.end
+text_more : (json : Bool) (ts : List PrintedLineValue) (t : PrintedLineValue) → text_of json (ts ++ t ∷ []) ≡ text_of json ts ++ line_of json t.end
 text_more json [] t = append-nil (line_of json t.end)
 text_more json (s ∷ ts) t =
     ap (λ l. line_of json s.end ++ l) (text_more json ts t)
     ∙ sym (append_assoc (line_of json s.end) (text_of json ts) (line_of json t.end))
 
-pub written_more : (old mid new : Option (List ℕ)) (json : Bool) (ts : List PrintedEndValue) (t : PrintedEndValue) → Appends old mid (text_of json ts) → Appends mid new (line_of json t.end)
+pub written_more : (old mid new : Option (List ℕ)) (json : Bool) (ts : List PrintedLineValue) (t : PrintedLineValue) → Appends old mid (text_of json ts) → Appends mid new (line_of json t.end)
     → Appends old new (text_of json (ts ++ t ∷ []))
 written_more old mid new json ts t first more =
     subst (Appends old new) (sym (text_more json ts t)) (Appends-trans old mid new (text_of json ts) (line_of json t.end) first more)
 
-pub noted_more : (first : Option PlacedCode) (ts : List PrintedEndValue) (t : PrintedEndValue) → after_notes first (map note_of (ts ++ t ∷ [])) ≡ after_note (after_notes first (map note_of ts)) (note_of t)
+pub noted_more : (first : Option PlacedCode) (ts : List PrintedLineValue) (t : PrintedLineValue) → after_notes first (map note_of (ts ++ t ∷ [])) ≡ after_note (after_notes first (map note_of ts)) (note_of t)
 noted_more first [] t = refl
 noted_more first (s ∷ ts) t = noted_more (after_note first (note_of s)) ts t
 
@@ -60,10 +60,10 @@ one_more tally e = record {
 counted_more : (n more all : ℕ) → all ≡ n + more → counted (counted n + more) ≡ counted all
 counted_more n more all is = omega (arith, is)
 
-pub tally_more : (ts : List PrintedEndValue) (t : PrintedEndValue) → one_more (tally_of ts) t.end ≡ tally_of (ts ++ t ∷ [])
+pub tally_more : (ts : List PrintedLineValue) (t : PrintedLineValue) → one_more (tally_of ts) t.end ≡ tally_of (ts ++ t ∷ [])
 tally_more ts t =
-    let failed : PrintedEndValue → ℕ = λ x. cond (is_failure x.end.verdict) 1 0 in
-    let size : PrintedEndValue → ℕ = λ x. x.end.length in
+    let failed : PrintedLineValue → ℕ = λ x. cond (is_failure x.end.verdict) 1 0 in
+    let size : PrintedLineValue → ℕ = λ x. x.end.length in
     ap (λ n. record { ended = n; failed = counted (counted (sum_by failed ts) + failed t); bytes = counted (counted (sum_by size ts) + size t) })
     (counted_more (length ts) 1 (length (ts ++ t ∷ [])) (length-append ts (t ∷ [])))
     ∙ ap (λ n. record { ended = counted (length (ts ++ t ∷ [])); failed = n; bytes = counted (counted (sum_by size ts) + size t) })
@@ -71,13 +71,13 @@ tally_more ts t =
     ∙ ap (λ n. record { ended = counted (length (ts ++ t ∷ [])); failed = counted (sum_by failed (ts ++ t ∷ [])); bytes = n })
     (counted_more (sum_by size ts) (size t) (sum_by size (ts ++ t ∷ [])) (sum_by_push size ts t))
 
-last_more : (ts : List PrintedEndValue) (t : PrintedEndValue) → last_of (ts ++ t ∷ []) ≡ Some t.end
+last_more : (ts : List PrintedLineValue) (t : PrintedLineValue) → last_of (ts ++ t ∷ []) ≡ Some t.end
 last_more [] t = refl
 last_more (s ∷ []) t = refl
 last_more (_ ∷ s ∷ ts) t = last_more (s ∷ ts) t
 
 -- one end more was reported, and flushed
-pub told_on : {W : Type 0} (contents : W → Option (List ℕ)) (l : LinesValue W) (out : Output W) (t : PrintedEndValue) (status : ExitStatus) (ts : List PrintedEndValue) (tally : Tally) → AreLines contents l
+pub told_on : {W : Type 0} (contents : W → Option (List ℕ)) (l : LinesValue W) (out : Output W) (t : PrintedLineValue) (status : ExitStatus) (ts : List PrintedLineValue) (tally : Tally) → AreLines contents l
     → has_failed_write l.output ≢ true → Wrote contents l.output out (line_of l.json t.end) → is_pending out ≡ false
     → first_of status ≡ after_note (first_of l.status) (note_of t) → ts ≡ l.told ++ t ∷ [] → tally ≡ one_more l.tally t.end
     → AreLines contents (record l { status = status; output = out; told = ts; tally = tally; last = Some t.end })

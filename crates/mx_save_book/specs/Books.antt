@@ -30,7 +30,7 @@ use Rattle.mx_save_book.specs.declared.begun.Begun.TheVariants as begun
 use Rattle.mx_save_book.specs.declared.job.Job.{Job}
 use Rattle.mx_save_book.specs.declared.job.Slot.{Slot}
 use Rattle.mx_save_book.specs.declared.job.Slot.TheVariants as slot
-use Rattle.mx_save_book.specs.Lines.{LinesValue, PrintedEndValue}
+use Rattle.mx_save_book.specs.Lines.{LinesValue, PrintedLineValue}
 use Rattle.mx_save_book.specs.Jobs.{AreWhole, Asks, BookValue, HasEnded, HasFound, HoldsBy, IsTold, LeavesPart, Refuses, TellsLeft, has_part, is_told_saved, job_at, job_of, refused_end}
 
 -- no URL was read yet
@@ -284,7 +284,7 @@ awaits_at slots i t = option_map_or (awaits t) (slice_get slots i) false
 --
 -- All URLs have ended: what was reported holds, each URL was reported, and as many ends were reported as there are URLs; and no more bodies
 -- were saved than URLs were reported as saved: of one that failed, or was skipped, nothing was. Each of these bodies is whole.
-pub record HaveEnded (asking : Asking) (urls : List (List ℕ)) (l : LedgerValue OutcomeValue) (told : List PrintedEndValue) : Type 0 where
+pub record HaveEnded (asking : Asking) (urls : List (List ℕ)) (l : LedgerValue OutcomeValue) (told : List PrintedLineValue) : Type 0 where
   pub holds : AllByRecursion (IsTold asking urls l) told
   pub each : (place : ℕ) → place < length urls → HasEnded told place
   pub count : length told ≡ length urls

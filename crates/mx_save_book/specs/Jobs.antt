@@ -41,7 +41,7 @@ use Rattle.mx_save_book.specs.declared.finish.NotEnded.TheVariants as not_ended
 use Rattle.mx_save_book.specs.declared.job.Job.{Job}
 use Rattle.mx_save_book.specs.declared.job.Slot.{Slot}
 use Rattle.mx_save_book.specs.declared.job.Slot.TheVariants as slot
-use Rattle.mx_save_book.specs.Lines.{LinesValue, PrintedEndValue}
+use Rattle.mx_save_book.specs.Lines.{LinesValue, PrintedLineValue}
 
 -- the request is that of the URL
 abbrev pub Asks : Asking → List ℕ → RequestValue → Type 0
@@ -276,7 +276,7 @@ pub record IsNameAt (asking : Asking) (urls : List (List ℕ)) (place : ℕ) (na
   pub is : name ≡ numbered (base_name url) (count_of (map base_name before) (base_name url))
 
 -- of the URL at the place that was reported, under that URL's name, and it is an end
-pub record IsTold (asking : Asking) (urls : List (List ℕ)) (l : LedgerValue OutcomeValue) (t : PrintedEndValue) : Type 0 where
+pub record IsTold (asking : Asking) (urls : List (List ℕ)) (l : LedgerValue OutcomeValue) (t : PrintedLineValue) : Type 0 where
   pub url : slice_get urls t.place ≡ Some t.end.url
   pub name : IfSome t.end.file (IsNameAt asking urls t.place)
   pub end : IsEnd t.end
@@ -289,7 +289,7 @@ pub record State : Type 0 where
   pub urls : List (List ℕ)
   pub named : List (List ℕ)
   pub slots : List Slot
-  pub told : List PrintedEndValue
+  pub told : List PrintedLineValue
   pub ledger : LedgerValue OutcomeValue
 
 -- the same, with the output and the folder, and whether the run has stopped
@@ -320,14 +320,14 @@ abbrev pub IsPending : List Slot → ℕ → Type 0
 IsPending slots place = (i : ℕ) × (job : Job) × (job_at slots i ≡ Some job) × (job.place ≡ place)
 
 -- it was reported
-abbrev pub HasEnded : List PrintedEndValue → ℕ → Type 0
-HasEnded told place = (t : PrintedEndValue) × Contains told t × (t.place ≡ place)
+abbrev pub HasEnded : List PrintedLineValue → ℕ → Type 0
+HasEnded told place = (t : PrintedLineValue) × Contains told t × (t.place ≡ place)
 
 abbrev pub is_saved : Verdict → Bool
 is_saved verdict.Saved = true
 is_saved _ = false
 
-abbrev pub is_told_saved : PrintedEndValue → Bool
+abbrev pub is_told_saved : PrintedLineValue → Bool
 is_told_saved t = is_saved t.end.verdict
 
 -- Each URL is in a slot, or it has ended, and there are as many ends as URLs that aren't in one. What was reported holds. Those of which a

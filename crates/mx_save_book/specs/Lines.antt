@@ -11,11 +11,11 @@ use Rattle.mx_save_rules.specs.declared.status.PlacedCode.{PlacedCode}
 use Rattle.mx_save_book.specs.declared.tally.Tally.{Tally}
 
 -- an end that was printed, with the place of its URL
-pub record PrintedEndValue : Type 0 where
+pub record PrintedLineValue : Type 0 where
   pub place : ℕ
   pub end : EndValue
 
-abbrev pub note_of : PrintedEndValue → PlacedCode
+abbrev pub note_of : PrintedLineValue → PlacedCode
 note_of t = record { place = t.place; number = save_number t.end.code }
 
 -- what is printed of an end
@@ -23,7 +23,7 @@ abbrev pub line_of : Bool → EndValue → List ℕ
 line_of json end = if json then json_line end else end_line end
 
 -- and of all, in their order
-abbrev pub text_of : Bool → List PrintedEndValue → List ℕ
+abbrev pub text_of : Bool → List PrintedLineValue → List ℕ
 text_of json [] = []
 text_of json (t ∷ ts) = line_of json t.end ++ text_of json ts
 
@@ -32,7 +32,7 @@ pub record LinesValue (W : Type 0) : Type 0 where
   pub status : ExitStatus
   pub output : Output W
   pub start : Output W
-  pub told : List PrintedEndValue
+  pub told : List PrintedLineValue
   pub tally : Tally
   pub last : Option EndValue
 
@@ -41,7 +41,7 @@ abbrev pub counted : ℕ → ℕ
 counted n = min n 18446744073709551615
 
 -- of these ends: how many there are, how many of them are failures, and how many bytes the bodies have
-abbrev pub tally_of : List PrintedEndValue → Tally
+abbrev pub tally_of : List PrintedLineValue → Tally
 tally_of ts = record {
   ended = counted (length ts);
   failed = counted (count_by (λ t. is_failure t.end.verdict) ts);
@@ -49,7 +49,7 @@ tally_of ts = record {
 }
 
 -- the last of them, if there is one
-abbrev pub last_of : List PrintedEndValue → Option EndValue
+abbrev pub last_of : List PrintedLineValue → Option EndValue
 last_of [] = None
 last_of (t ∷ []) = Some t.end
 last_of (_ ∷ t ∷ ts) = last_of (t ∷ ts)

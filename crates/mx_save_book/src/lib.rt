@@ -11,6 +11,6 @@ mod tally;
 pub use crate::begun::Begun;
 pub use crate::book::{Book, free_slots};
 pub use crate::job::{Job, Slot};
-pub use crate::lines::{Lines, PrintedEnd};
+pub use crate::lines::{Lines, PrintedLine};
 pub use crate::tally::Tally;
 pub use mx_save_rules::Asking;

@@ -16,15 +16,15 @@ use std::snapshot::Snapshot;
 
 /// What a URL ended with, and its place among the URLs of the run, for contracts alone.
 #[derive(Drop)]
-pub struct PrintedEnd {
+pub struct PrintedLine {
     place: u64,
     end: Snapshot<End>,
 }
 
-impl Model for PrintedEnd {
-    ghost use Rattle.mx_save_book.specs.Lines.{PrintedEndValue};
+impl Model for PrintedLine {
+    ghost use Rattle.mx_save_book.specs.Lines.{PrintedLineValue};
 
-    ghost Value = { PrintedEndValue };
+    ghost Value = { PrintedLineValue };
 
     ghost view = { λ t. record { place = t.place; end = t.end.value } };
 }
@@ -38,7 +38,7 @@ pub struct Lines<W: Write> {
     status: ExitStatus,
     output: Output<W>,
     start: Snapshot<Output<W>>,
-    told: History<PrintedEnd>,
+    told: History<PrintedLine>,
     tally: Tally,
     last: Option<End>,
 }
@@ -138,7 +138,7 @@ impl<W: Write> Lines<W> {
         self.ready()?;
         print_flushed(self.alloc, &mut self.output, self.json, &end)?;
         self.status.note(place, end.code());
-        self.told.note(PrintedEnd {
+        self.told.note(PrintedLine {
             place,
             end: Snapshot::of(&end),
         });
