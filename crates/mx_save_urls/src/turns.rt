@@ -26,6 +26,9 @@ const LONGEST_WAIT_MS: u32 = 60_000;
 /// The same, where a list has nothing now.
 const LIST_WAIT_MS: u32 = 20;
 
+/// The most messages that are taken before the next transfers are begun.
+const MOST_ENDS: usize = 16;
+
 // What was seen of a run: how many URLs had ended, when its standing is shown next, and since when the history has had no room.
 #[derive(Clone, Copy)]
 struct Seen {
@@ -197,6 +200,53 @@ fn await_one<
     }
 }
 
+// How many messages are taken at a time, where so many transfers are added: half of those at most, so that workers have the others meanwhile.
+fn most_ends(added: usize) -> usize {
+    (added / 2).max(1).min(MOST_ENDS)
+}
+
+// Waits for the next message likewise, and ends its URL and those of the messages that are there by then, up to so many, so that the next
+// transfers are begun, and workers woken, a few at a time. The answer is how many URLs have ended.
+fn await_some<
+    'a,
+    F: Folder,
+    K: Requests<Spool<F>>,
+    W: Write,
+    Rd: Read + Drop,
+    R: Wait + AllocGlobal + Clock,
+    V: Watch,
+>(
+    rt: &R,
+    desk: &mut K,
+    work: &mut Work<'a, F, W, Rd>,
+    watch: &mut V,
+    timer: Timer,
+    milliseconds: u32,
+    most: usize,
+    ended: u64,
+) -> Result<u64, Stop>
+    requires going { work.old.book.is_stopped ≡ false }
+    requires all { AreAsked work.old.book.asking work.old.book.slots (K.asked desk.old) }
+    requires waits { AreBroughtOn work.old.book.slots work.old.waiting }
+    ensures waits { OnOk result (AreBroughtOn work.new.book.slots work.new.waiting) }
+    ensures all { OnOk result (AreAsked work.new.book.asking work.new.book.slots (K.asked desk.new)) }
+    ensures going { OnOk result (work.new.book.is_stopped ≡ false) }
+    ensures run { IsSameWork work.old work.new }
+{
+    let mut ended = ended;
+    let mut wait = milliseconds;
+    for _ in 0..most {
+        await_one(rt, desk, work, watch, timer, wait)?;
+        let before = ended;
+        ended = report(work, watch, before);
+        if ended == before {
+            return Ok(ended);
+        }
+        wait = 0;
+    }
+    Ok(ended)
+}
+
 // Why the run leaves its desk, if it does, where so many milliseconds are left until it leaves one that takes no more.
 fn how_turned<'a, F: Folder, K: Requests<Spool<F>>, W: Write, Rd: Read + Drop>(
     desk: &K,
@@ -279,7 +329,9 @@ pub(crate) fn take_turns<
         }
         let may_add = standing.has_room && !standing.is_full;
         let milliseconds = wait_ms(attempt, watch.period(), may_add, work.next_moment(), now);
-        await_one(rt, desk, work, watch, timer, milliseconds.min(left))?;
+        let wait = milliseconds.min(left);
+        let most = most_ends(standing.len);
+        seen.ended = await_some(rt, desk, work, watch, timer, wait, most, seen.ended)?;
     }
     unreachable!()
 }
