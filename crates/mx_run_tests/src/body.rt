@@ -1,15 +1,16 @@
 //! `run_body` over long responses, over bytes that begin no response, and with writes that fail after a buffer.
 //!
 //! It is called in one function, which has no contract, and what a row owns is owned by functions with one exit: so the proof is short.
-use crate::fakes::{Filler, Full, Pipe};
+use crate::fakes::Filler;
 use crate::long::{Long, add_long, bytes_of};
 use crate::tally::RowTally;
+use crate::unwritten::{Command, see_buffers};
 use mx_responses_tests_base::bytes::{COUNTED, HEAD};
 use mx_run_io::{Input, Output};
 use mx_run_local::{MOST_BODY_READS, run_body};
 use mx_types::Method;
 use std::alloc::{AllocError, Global};
-use std::io::{BufWriter, Read, Write};
+use std::io::{Read, Write};
 
 /// What `body` ends with.
 pub(crate) fn run<R: Read + Drop, W: Write + Drop>(
@@ -130,43 +131,8 @@ fn see_random(alloc: Global, tally: &mut RowTally) -> Result<(), AllocError> {
 }
 
 /// Whether a writer answers to a response that it couldn't be written.
-fn is_unwritten<W: Write + Drop>(alloc: Global, writer: W) -> bool {
+pub(crate) fn is_unwritten<W: Write + Drop>(alloc: Global, writer: W) -> bool {
     run(alloc, Method::Get, COUNTED, writer) == 121
-}
-
-/// Whether it does with a buffer before it.
-fn is_unwritten_behind<W: Write + Drop>(alloc: Global, writer: W) -> bool {
-    match BufWriter::new(alloc, writer) {
-        Ok(writer) => is_unwritten(alloc, writer),
-        Err(_) => false,
-    }
-}
-
-/// Whether it does with a buffer before a writer that takes so many writes.
-fn is_full_behind(alloc: Global, writes: u8) -> bool {
-    let mut taken = Vec::new(alloc);
-    let taken = &mut taken;
-    is_unwritten_behind(alloc, Full { taken, writes })
-}
-
-/// A writer that takes each write, and whose flush fails.
-const UNFLUSHED: Pipe = Pipe {
-    writes: usize::MAX,
-    is_flushed: false,
-};
-
-// rule program-unwritten
-fn see_buffers(alloc: Global, tally: &mut RowTally) -> Result<(), AllocError> {
-    tally.hold("a buffer before a full disk", is_full_behind(alloc, 0))?;
-    tally.hold(
-        "a buffer before a disk that is full after a write",
-        is_full_behind(alloc, 1),
-    )?;
-    tally.hold("a flush that fails", is_unwritten(alloc, UNFLUSHED))?;
-    tally.hold(
-        "a flush that fails behind a buffer",
-        is_unwritten_behind(alloc, UNFLUSHED),
-    )
 }
 
 /// A head and so many letters, and what `body` gives: the exit status, and a line and so many letters.
@@ -249,6 +215,6 @@ pub(crate) fn see_all(alloc: Global, tally: &mut RowTally) -> Result<(), AllocEr
     see_pieces(alloc, tally)?;
     see_cuts(alloc, tally)?;
     see_random(alloc, tally)?;
-    see_buffers(alloc, tally)?;
+    see_buffers(alloc, Command::Body, tally)?;
     see_filled(alloc, tally)
 }

@@ -19,6 +19,7 @@ mod saves;
 mod tally;
 mod texts;
 mod transfers;
+mod unwritten;
 mod words;
 
 use crate::tally::RowTally;

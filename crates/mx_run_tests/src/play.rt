@@ -2,12 +2,13 @@
 //!
 //! `run_play` is called in one function, which has no contract, and what a row owns is owned by functions that end in one place: so the
 //! proof is short.
-use crate::fakes::{Full, PieceReader, Pipe};
+use crate::fakes::{Full, PieceReader};
 use crate::tally::RowTally;
+use crate::unwritten::{Command, see_buffers};
 use mx_run_io::{Input, Output};
 use mx_run_local::{MOST_SCRIPT_READS, run_play};
 use std::alloc::{AllocError, Global};
-use std::io::{BufWriter, Read, Write};
+use std::io::{Read, Write};
 
 /// What `play` ends with, with a history of 1,024 events; `None` where the reads are more than may be.
 fn run<R: Read + Drop, W: Write + Drop>(
@@ -144,43 +145,8 @@ fn see_failing_writes(alloc: Global, tally: &mut RowTally) -> Result<(), AllocEr
 }
 
 /// Whether a writer answers to a short script that it couldn't be written.
-fn is_unwritten<W: Write + Drop>(alloc: Global, writer: W) -> bool {
+pub(crate) fn is_unwritten<W: Write + Drop>(alloc: Global, writer: W) -> bool {
     run(alloc, SCRIPT.as_bytes(), MOST_SCRIPT_READS, writer) == Some(121)
-}
-
-/// Whether it does with a buffer before it.
-fn is_unwritten_behind<W: Write + Drop>(alloc: Global, writer: W) -> bool {
-    match BufWriter::new(alloc, writer) {
-        Ok(writer) => is_unwritten(alloc, writer),
-        Err(_) => false,
-    }
-}
-
-/// Whether it does with a buffer before a writer that takes so many writes.
-fn is_full_behind(alloc: Global, writes: u8) -> bool {
-    let mut taken = Vec::new(alloc);
-    let taken = &mut taken;
-    is_unwritten_behind(alloc, Full { taken, writes })
-}
-
-/// A writer that takes each write, and whose flush fails.
-const UNFLUSHED: Pipe = Pipe {
-    writes: usize::MAX,
-    is_flushed: false,
-};
-
-// rule program-unwritten
-fn see_buffers(alloc: Global, tally: &mut RowTally) -> Result<(), AllocError> {
-    tally.hold("a buffer before a full disk", is_full_behind(alloc, 0))?;
-    tally.hold(
-        "a buffer before a disk that is full after a write",
-        is_full_behind(alloc, 1),
-    )?;
-    tally.hold("a flush that fails", is_unwritten(alloc, UNFLUSHED))?;
-    tally.hold(
-        "a flush that fails behind a buffer",
-        is_unwritten_behind(alloc, UNFLUSHED),
-    )
 }
 
 fn add_line(alloc: Global, text: &mut String, word: &str, number: u32) -> Result<(), AllocError> {
@@ -242,6 +208,6 @@ pub(crate) fn see_all(alloc: Global, tally: &mut RowTally) -> Result<(), AllocEr
     see_failing_reads(alloc, tally)?;
     see_most_reads(alloc, tally)?;
     see_failing_writes(alloc, tally)?;
-    see_buffers(alloc, tally)?;
+    see_buffers(alloc, Command::Play, tally)?;
     see_full(alloc, tally)
 }
