@@ -9,13 +9,13 @@ use Rattle.mx_exchange.specs.Exchanges.{WantsLink}
 use Rattle.mx_turn.specs.Idle.{Idle}
 use Rattle.mx_chain.specs.Chains.{ChainState, received_of}
 use Rattle.mx_chain.specs.Outcomes.{OutcomeValue}
-use Rattle.mx_chain.specs.Steps.{How, waits}
+use Rattle.mx_chain.specs.Steps.{waits}
 use Rattle.mx_gate.specs.Said.{Said}
 use Rattle.mx_transfer.specs.Deliveries.{MakesRoom}
 use Rattle.mx_turn.specs.Supplies.{Supplies}
 use Rattle.mx_turn.specs.Workers.{Held, Worker, does, holds, Finish, recorded, stale, lacking, unseated, Return, Deed, looks, notes, gives_back}
 use Rattle.mx_turn.specs.Turn.{handed_in, is_delayed, prepared, unlinked, Keeps, Readies, Settles, Supplied, LooksAt, lets_go, serves, is_go}
-use Rattle.mx_worker_turns.specs.WorkerSteps.{beside, IsReadied, Polls, Advances}
+use Rattle.mx_worker_turns.specs.WorkerSteps.{beside, IsNoted, IsReadied, Advances, Serves}
 
 -- the same in each part
 pub alike : {L : Type 0} (w v : Worker L) → w.held ≡ v.held → w.set_aside ≡ v.set_aside → w.idle ≡ v.idle → w.is_stopping ≡ v.is_stopping → w.can_go_on ≡ v.can_go_on → w.did ≡ v.did → w.said ≡ v.said → w ≡ v
@@ -49,29 +49,30 @@ module _ {L : Type 0} (history : L → List Answer) (token_of : L → ℕ) where
       subst (λ (b : Bool). (Supplied history token_of (prepared now b t) ready w.idle left s.said → IsReadied history token_of (prepared now b t) ready b delayed w (record w { idle = left; said = is }))) (sym e)
       (λ given. record { idle = left; said = s.said; readies = given; delays = s.delays; after = ap (λ (x : List Said). record w { idle = left; said = x }) s.meanwhile }) at
 
-  -- one whose delivery made room, and that was made ready, polled, and settled
-  pub advanced : (now : ℕ) (h : Held L) (may room goes delayed : Bool) (w mid polled v : Worker L) (offered ready left : ChainState L) (how : How) (said : List Said) → MakesRoom h.transfer offered room → goes ≡ (may && room)
-      → IsReadied history token_of (prepared now goes offered) ready goes delayed w (beside mid said)
-      → Polls history (record h { transfer = ready }) left mid polled how → Settles (record h { transfer = left }) goes delayed (beside polled said) (beside v said) how → Advances history token_of now h may w (beside v said)
-  advanced now h may room goes delayed w mid polled v offered ready left how said m e r p s = record {
-    room = room;
-    offered = offered;
-    ready = ready;
-    new = p.new;
-    idle = r.idle;
-    left = p.idle;
-    said = r.said;
-    how = how;
-    makes = m;
-    readies = subst (λ (b : Bool). Readies history token_of b (prepared now b offered) ready w.idle r.idle r.said) e r.readies;
-    polled = p.polled;
-    keeps = subst (λ (x : Worker L). Keeps p.new x.idle p.idle) r.after p.keeps;
-    settles = subst (λ (x : Worker L). Settles (record h { transfer = unlinked p.new }) (may && room) (is_delayed r.said) (record x { idle = p.idle; did = x.did ++ notes h.ticket h.slot (received_of p.new) ∷ [] }) (beside v said) how) r.after
-        (subst (λ (x : Worker L). Settles (record h { transfer = unlinked p.new }) (may && room) (is_delayed r.said) (beside x said) (beside v said) how) p.after
-        (subst (λ (t : ChainState L). Settles (record h { transfer = t }) (may && room) (is_delayed r.said) (beside polled said) (beside v said) how) p.unlinks
-        (subst (λ (b : Bool). Settles (record h { transfer = left }) (may && room) b (beside polled said) (beside v said) how) r.delays
-        (subst (λ (b : Bool). Settles (record h { transfer = left }) b delayed (beside polled said) (beside v said) how) e s))));
-  }
+  -- one whose delivery made room, and that was made ready and served
+  pub advanced : (now : ℕ) (h : Held L) (may room goes delayed : Bool) (w mid v : Worker L) (offered ready : ChainState L) → MakesRoom h.transfer offered room → goes ≡ (may && room)
+      → IsReadied history token_of (prepared now goes offered) ready goes delayed w mid → Serves history (record h { transfer = ready }) goes delayed mid v → Advances history token_of now h may w v
+  advanced now h may room goes delayed w mid v offered ready m e r s =
+      let noted : IsNoted (record h { transfer = s.polls.new }) s.left mid s.mid = s.polls.noted in
+      record {
+        room = room;
+        offered = offered;
+        ready = ready;
+        new = s.polls.new;
+        idle = r.idle;
+        left = noted.idle;
+        said = r.said;
+        how = s.how;
+        makes = m;
+        readies = subst (λ (b : Bool). Readies history token_of b (prepared now b offered) ready w.idle r.idle r.said) e r.readies;
+        polled = s.polls.polled;
+        keeps = subst (λ (x : Worker L). Keeps s.polls.new x.idle noted.idle) r.after noted.keeps;
+        settles = subst (λ (x : Worker L). Settles (record h { transfer = unlinked s.polls.new }) (may && room) (is_delayed r.said) (record x { idle = noted.idle; did = x.did ++ notes h.ticket h.slot (received_of s.polls.new) ∷ [] }) v s.how) r.after
+            (subst (λ (x : Worker L). Settles (record h { transfer = unlinked s.polls.new }) (may && room) (is_delayed r.said) x v s.how) noted.after
+            (subst (λ (t : ChainState L). Settles (record h { transfer = t }) (may && room) (is_delayed r.said) s.mid v s.how) noted.unlinks
+            (subst (λ (b : Bool). Settles (record h { transfer = s.left }) (may && room) b s.mid v s.how) r.delays
+            (subst (λ (b : Bool). Settles (record h { transfer = s.left }) b delayed s.mid v s.how) e s.settles))));
+      }
 
   -- what was looked at, and given back, as it was gone
   pub looks_gone : (now : ℕ) (h : Held L) (w v : Worker L) (d : List (Deed L)) (said : List Said) → d ≡ w.did ++ looks h.ticket (Some look.Gone) ∷ [] → (r : Return) × (v ≡ does (record w { did = d }) (gives_back h r))

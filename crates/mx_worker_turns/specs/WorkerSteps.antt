@@ -1,12 +1,15 @@
 -- What the functions of a worker promise one another.
-use Rattle.std.specs.Prelude.{◌≡◌, ◌⊎◌, ℕ, ◌+◌, ◌&&◌, Bool, List, ◌∷◌, ◌++◌, [], length, Option, Some, None}
+use Rattle.std.specs.Prelude.{◌≡◌, ◌⊎◌, ℕ, ◌+◌, ◌&&◌, Bool, true, false, List, ◌∷◌, ◌++◌, [], length, Option, Some, None}
 use Rattle.logbook.specs.Pages.{Book}
 use Rattle.mx_link.specs.declared.answers.Answer.{Answer}
 use Rattle.mx_turn.specs.Idle.{Idle}
 use Rattle.mx_chain.specs.Chains.{ChainState, received_of}
+use Rattle.mx_exchange.specs.Exchanges.{ExchangeState, WantsLink, IsDue}
 use Rattle.mx_chain.specs.Steps.{How, Steps}
 use Rattle.mx_transfer.specs.Deliveries.{MakesRoom}
 use Rattle.mx_transfer.specs.Transfers.{Delivers}
+use Rattle.mx_transfer.specs.declared.polled.Polled.{Polled}
+use Rattle.mx_transfer.specs.declared.polled.Polled.TheVariants as polled
 use Rattle.mx_gate.specs.Said.{Said, lacked}
 use Rattle.mx_turn.specs.Workers.{Held, SetAside, Finish, recorded, stale, lacking, unseated, Deed, notes, finishes, Worker, starts, IsOver}
 use Rattle.mx_turn.specs.Turn.{Keeps, Readies, Settles, Runs, is_delayed, prepared, relieved, unlinked}
@@ -73,14 +76,42 @@ pub record IsPolled {L : Type 0} (history : L → List Answer) (t new : ChainSta
   pub steps : Steps history t new went
   pub delivers : Delivers went how
 
--- a transfer is polled once: the count of its bytes is noted, and the link that a hop left is kept
+-- the count of a transfer's bytes is noted, and the link that a hop left is kept
+pub record IsNoted {L : Type 0} (h : Held L) (left : ChainState L) (w v : Worker L) : Type 0 where
+  pub idle : Idle L
+  pub keeps : Keeps h.transfer w.idle idle
+  pub unlinks : left ≡ unlinked h.transfer
+  pub after : v ≡ record w { idle = idle; did = w.did ++ notes h.ticket h.slot (received_of h.transfer) ∷ [] }
+
+-- a transfer is polled once, and what came of it is noted
 pub record Polls {L : Type 0} (history : L → List Answer) (h : Held L) (left : ChainState L) (w v : Worker L) (how : How) : Type 0 where
   pub new : ChainState L
-  pub idle : Idle L
   pub polled : IsPolled history h.transfer new how
-  pub keeps : Keeps new w.idle idle
-  pub unlinks : left ≡ unlinked new
-  pub after : v ≡ record w { idle = idle; did = w.did ++ notes h.ticket h.slot (received_of new) ∷ [] }
+  pub noted : IsNoted (record h { transfer = new }) left w v
+
+-- what the last poll of a transfer that waits has left: its clock runs, and it has no link that needs a probe
+abbrev pub HasWaited : {L : Type 0} → ExchangeState L → Type 0
+HasWaited t = (t.is_polled ≡ true) × (t.needs_probe ≡ false)
+
+-- a poll would change nothing: it waits for a link still, isn't paused, and its deadline has not come
+pub record AwaitsLink {L : Type 0} (t : ExchangeState L) : Type 0 where
+  pub waited : HasWaited t
+  pub wants : WantsLink t
+  pub early : ¬ (IsDue t.deadline t.moment)
+  pub unpaused : t.is_paused ≡ false
+
+-- this holds, where the poll waits
+abbrev pub IfWaits : {D : Type 0} → Polled D → Type 0 → Type 0
+IfWaits polled.Waits P = P
+IfWaits _ P = Unit {0}
+
+-- a transfer that is ready is polled, and is held on unless it has ended
+pub record Serves {L : Type 0} (history : L → List Answer) (h : Held L) (goes delayed : Bool) (w v : Worker L) : Type 0 where
+  pub left : ChainState L
+  pub mid : Worker L
+  pub how : How
+  pub polls : Polls history h left w mid how
+  pub settles : Settles (record h { transfer = left }) goes delayed mid v how
 
 -- a transfer that was looked at is polled, once its delivery has made room
 pub record Advances {L : Type 0} (history : L → List Answer) (token_of : L → ℕ) (now : ℕ) (h : Held L) (goes : Bool) (w v : Worker L) : Type 0 where

@@ -1,10 +1,11 @@
 //! The engine that a worker calls, and what it gets from it.
-ghost use Rattle.std.specs.Prelude.{◌≡◌, ◌↔◌, ℕ, List, [], None, ◌∷◌, ◌++◌, option_map, IsTrue, IfSome, min};
+ghost use Rattle.std.specs.Prelude.{◌≡◌, ◌↔◌, ℕ, List, [], None, true, ◌∷◌, ◌++◌, option_map, IsTrue, IfSome, min};
 ghost use Rattle.logbook.specs.Pages.{Book};
 ghost use Rattle.mx_types.specs.declared.names.Ticket.{Ticket as OneTicket};
 ghost use Rattle.mx_types.specs.declared.origin.Origin.{Origin};
 ghost use Rattle.mx_request.specs.Request.{request_origin};
 ghost use Rattle.mx_turn.specs.Turn.{IsLate, longest_wait, time_left};
+ghost use Rattle.mx_worker_turns.specs.WorkerSteps.{HasWaited};
 
 use mx_link::Link;
 use mx_sink::Delivery;
@@ -43,27 +44,33 @@ pub trait Right: Tied + Drop {
 pub struct Claimed<L: Link, C: Right, D: Delivery> {
     pub(crate) right: C,
     pub(crate) transfer: Box<Transfer<L, D>>,
+    // Its last poll waited.
+    pub(crate) has_waited: bool,
 }
 
 // Written out, and not derived: a crate that drops one cites its proof.
 impl<L: Link, C: Right, D: Delivery> Drop for Claimed<L, C, D> {
     fn drop(self) {
-        let Claimed { right, transfer } = self;
+        let Claimed {
+            right,
+            transfer,
+            has_waited: _,
+        } = self;
         drop(right);
         drop(transfer);
     }
 }
 
 impl<L: Link, C: Right, D: Delivery> Model for Claimed<L, C, D> {
-    ghost use Rattle.std.specs.Prelude.{◌≡◌, None};
+    ghost use Rattle.std.specs.Prelude.{◌≡◌, None, true};
     ghost use Rattle.mx_request.specs.Request.{request_origin};
-    ghost use Rattle.mx_worker_turns.specs.WorkerSteps.{HeldView};
+    ghost use Rattle.mx_worker_turns.specs.WorkerSteps.{HeldView, HasWaited};
 
     ghost Value = { HeldView L };
 
     ghost view = { λ h. record { held = record { ticket = C.ticket_of h.right; slot = C.slot_of h.right; transfer = h.transfer.value.chain }; of = C.of h.right } };
 
-    ghost invariant = { λ h. (h.transfer.value.chain.code ≡ None) × (request_origin h.transfer.value.chain.request ≡ C.origin_of h.right) };
+    ghost invariant = { λ h. (h.transfer.value.chain.code ≡ None) × (request_origin h.transfer.value.chain.request ≡ C.origin_of h.right) × (h.has_waited ≡ true → HasWaited h.transfer.value.chain.now) };
 }
 
 impl<L: Link, C: Right, D: Delivery> Tied for Claimed<L, C, D> {
@@ -77,7 +84,32 @@ impl<L: Link, C: Right, D: Delivery> Claimed<L, C, D> {
         requires origin { request_origin transfer.value.chain.request ≡ C.origin_of right }
         ensures { result ≡ record { held = record { ticket = C.ticket_of right; slot = C.slot_of right; transfer = transfer.value.chain }; of = C.of right } }
     {
-        Claimed { right, transfer }
+        Claimed {
+            right,
+            transfer,
+            has_waited: false,
+        }
+    }
+
+    /// A transfer whose last poll waited, with the right to it.
+    pub(crate) fn waiting(right: C, transfer: Box<Transfer<L, D>>) -> Claimed<L, C, D>
+        requires running { transfer.value.chain.code ≡ None }
+        requires origin { request_origin transfer.value.chain.request ≡ C.origin_of right }
+        requires waited { HasWaited transfer.value.chain.now }
+        ensures { result ≡ record { held = record { ticket = C.ticket_of right; slot = C.slot_of right; transfer = transfer.value.chain }; of = C.of right } }
+    {
+        Claimed {
+            right,
+            transfer,
+            has_waited: true,
+        }
+    }
+
+    /// Whether its last poll is known to have waited.
+    pub(crate) fn has_waited(&self) -> bool
+        ensures { result ≡ true → HasWaited self.now.held.transfer.now }
+    {
+        self.has_waited
     }
 
     /// The right and the transfer, by move.
@@ -86,7 +118,11 @@ impl<L: Link, C: Right, D: Delivery> Claimed<L, C, D> {
         ensures running { result.1.value.chain.code ≡ None }
         ensures origin { request_origin result.1.value.chain.request ≡ C.origin_of result.0 }
     {
-        let Claimed { right, transfer } = self;
+        let Claimed {
+            right,
+            transfer,
+            has_waited: _,
+        } = self;
         (right, transfer)
     }
 

@@ -9,8 +9,8 @@ use mx_gate::Gate;
 use mx_link::Link;
 use mx_sink::Delivery;
 
-// Whether the deadline has come.
-fn is_due(deadline: Option<u64>, now: u64) -> bool
+/// Whether the deadline has come.
+pub(crate) fn is_due(deadline: Option<u64>, now: u64) -> bool
     ensures { IsTrue result ↔ IsDue deadline now }
 {
     match deadline {

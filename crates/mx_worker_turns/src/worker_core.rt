@@ -1,19 +1,19 @@
 //! A worker's core: what it holds, and what it does with it.
-ghost use Rattle.std.specs.Prelude.{◌≡◌, ◌<◌, ◌≤◌, ◌+◌, ◌↔◌, ◌||◌, ◌&&◌, not, length, map, [], None, Some, true, false, IsTrue, fold, min};
+ghost use Rattle.std.specs.Prelude.{◌≡◌, ◌<◌, ◌≤◌, ◌+◌, ◌↔◌, ◌||◌, ◌&&◌, not, length, map, List, [], None, Some, true, false, IsTrue, fold, min};
 ghost use Rattle.mx_types.specs.Limits.{most_transfers};
 ghost use Rattle.mx_types.specs.declared.reply.Look.TheVariants as look;
 ghost use Rattle.mx_request.specs.Request.{request_origin};
-ghost use Rattle.mx_exchange.specs.Exchanges.{WantsLink};
+ghost use Rattle.mx_exchange.specs.Exchanges.{WantsLink, IsDue};
 ghost use Rattle.mx_transfer.specs.Transfers.{IfEnded, IfGoing, how_of};
-ghost use Rattle.mx_gate.specs.Said.{is_stop};
+ghost use Rattle.mx_gate.specs.Said.{Said, is_stop};
 ghost use Rattle.mx_turn.specs.Workers.{Return, gives_back, in_hand, does, holds, IsOver};
 ghost use Rattle.mx_turn.specs.Turn.{Each, Claims, Retries, LooksAt, GivesBack, GoesThrough, Stops, WorkerTurn, is_go, longest_wait, prepared, time_left, wait_of};
-ghost use Rattle.mx_worker_turns.specs.WorkerSteps.{Advances, HandsIn, IsPolled, IsReadied, Polls, Relieves, beside};
+ghost use Rattle.mx_worker_turns.specs.WorkerSteps.{Advances, AwaitsLink, HandsIn, HasWaited, IfWaits, IsNoted, IsPolled, IsReadied, Polls, Relieves, Serves, beside};
 
 use crate::engine::{Claimed, Engine, Finished, LONGEST_WAIT, Right, Tied};
 use crate::in_flight::InFlight;
 use crate::lent::Lent;
-use crate::next::{least_deadline, take_next};
+use crate::next::{is_due, least_deadline, take_next};
 use crate::queue::Queue;
 use futures::Future;
 use futures::task::{Poll, Solo};
@@ -76,6 +76,7 @@ fn poll_once<L: Link, D: Delivery>(
 ) -> Polled<D>
     requires running { transfer.old.chain.code ≡ None }
     ensures steps { IsPolled L.history transfer.old.chain transfer.new.chain (how_of result) }
+    ensures waited { IfWaits result (HasWaited transfer.new.chain.now) }
     ensures value { IfEnded result (λ o. o.request ≡ transfer.old.chain.request) }
     ensures again { IfGoing result (transfer.new.chain.code ≡ None) }
     ensures same { IfGoing result (transfer.new.chain.request ≡ transfer.old.chain.request) }
@@ -106,6 +107,19 @@ fn wants_link<L: Link, D: Delivery>(transfer: &Transfer<L, D>) -> bool
     ensures { IsTrue result ↔ WantsLink transfer.now.chain.now }
 {
     transfer.wants().is_some()
+}
+
+// Whether a poll of a transfer that is ready would change nothing: its last poll waited, it goes on, wants a link still, and its deadline has
+// not come.
+fn awaits_link<L: Link, D: Delivery>(
+    has_waited: bool,
+    goes: bool,
+    now: u64,
+    transfer: &Transfer<L, D>,
+) -> bool
+    ensures { IsTrue result → (has_waited ≡ true) × (goes ≡ true) × WantsLink transfer.now.chain.now × ¬ (IsDue transfer.now.chain.now.deadline now) }
+{
+    has_waited && goes && wants_link(transfer) && !is_due(transfer.deadline(), now)
 }
 
 // Whether a look found that a transfer is gone.
@@ -225,16 +239,14 @@ impl<L: Link, C: Right, D: Delivery, E: Engine<L, C, D>> WorkerCore<L, C, D, E> 
     }
 
     // Holds on to a transfer that was polled, which could go on at once, or couldn't.
-    fn hold_on(&mut self, right: C, transfer: Box<Transfer<L, D>>, could: bool)
+    fn hold_on(&mut self, held: Claimed<L, C, D>, could: bool)
         requires room { in_hand self.old.worker < most_transfers }
-        requires own { C.of right ≡ self.old.of }
-        requires running { transfer.value.chain.code ≡ None }
-        requires origin { request_origin transfer.value.chain.request ≡ C.origin_of right }
-        ensures held { self.new.worker ≡ holds (record self.old.worker { can_go_on = (self.old.worker.can_go_on || could) }) (record { ticket = C.ticket_of right; slot = C.slot_of right; transfer = transfer.value.chain }) }
+        requires own { held.of ≡ self.old.of }
+        ensures held { self.new.worker ≡ holds (record self.old.worker { can_go_on = (self.old.worker.can_go_on || could) }) held.held }
         ensures same { self.new ≡ record self.old { worker = self.new.worker } }
     {
         self.go_on_if(could);
-        self.hold(Claimed::new(right, transfer));
+        self.hold(held);
     }
 
     // rule turn-files
@@ -300,24 +312,86 @@ impl<L: Link, C: Right, D: Delivery, E: Engine<L, C, D>> WorkerCore<L, C, D, E> 
     }
 
     // rule turn-progress
-    // Polls a transfer once, notes how many bytes it has received, and keeps the link that a hop left.
+    // Notes how many bytes a transfer has received, and keeps the link that a hop left.
+    fn note(&mut self, right: &C, transfer: &mut Transfer<L, D>)
+        ensures noted { IsNoted (record { ticket = C.ticket_of right.now; slot = C.slot_of right.now; transfer = transfer.old.chain }) transfer.new.chain self.old.worker self.new.worker }
+        ensures same { self.new ≡ record self.old { worker = self.new.worker } }
+    {
+        self.engine.note(right, transfer.received());
+        self.links.keep(transfer);
+    }
+
+    // Polls a transfer once, and notes what it has received before its end is recorded: from then on the slot may be another transfer's.
     fn poll(&mut self, right: &C, transfer: &mut Transfer<L, D>) -> Polled<D>
         requires running { transfer.old.chain.code ≡ None }
         ensures polls { Polls L.history (record { ticket = C.ticket_of right.now; slot = C.slot_of right.now; transfer = transfer.old.chain }) transfer.new.chain self.old.worker self.new.worker (how_of result) }
+        ensures waited { IfWaits result (HasWaited transfer.new.chain.now) }
         ensures value { IfEnded result (λ o. o.request ≡ transfer.old.chain.request) }
         ensures again { IfGoing result (transfer.new.chain.code ≡ None) }
         ensures request { IfGoing result (transfer.new.chain.request ≡ transfer.old.chain.request) }
         ensures same { self.new ≡ record self.old { worker = self.new.worker } }
     {
         let stepped = poll_once(&self.solo, &mut self.lent, transfer);
-        // Before the end is recorded: from then on the slot may be another transfer's.
-        self.engine.note(right, transfer.received());
-        self.links.keep(transfer);
+        self.note(right, transfer);
         stepped
     }
 
+    // Polls a transfer that is ready, and holds it on unless it has ended.
+    fn serve<R: Wait>(
+        &mut self,
+        rt: &R,
+        right: C,
+        transfer: Box<Transfer<L, D>>,
+        goes: bool,
+        delayed: bool,
+    )
+        requires room { in_hand self.old.worker < most_transfers }
+        requires own { C.of right ≡ self.old.of }
+        requires running { transfer.value.chain.code ≡ None }
+        requires origin { request_origin transfer.value.chain.request ≡ C.origin_of right }
+        ensures serves { (said : List Said) → Serves L.history (record { ticket = C.ticket_of right; slot = C.slot_of right; transfer = transfer.value.chain }) goes delayed (beside self.old.worker said) (beside self.new.worker said) }
+        ensures same { self.new ≡ record self.old { worker = self.new.worker } }
+    {
+        let mut transfer = transfer;
+        let polled: &mut Transfer<L, D> = &mut transfer;
+        match self.poll(&right, polled) {
+            Polled::Waits => {
+                let wants = wants_link(polled);
+                self.hold_on(
+                    Claimed::waiting(right, transfer),
+                    could_go_on(goes, delayed, wants),
+                );
+            }
+            Polled::Asks => self.hold_on(Claimed::new(right, transfer), goes),
+            Polled::Ended(outcome) => {
+                drop(transfer);
+                self.record(rt, Finished::new(right, outcome));
+            }
+        }
+    }
+
+    // Holds on to a transfer that a poll wouldn't change.
+    fn rest(&mut self, right: C, transfer: Box<Transfer<L, D>>, delayed: bool)
+        requires room { in_hand self.old.worker < most_transfers }
+        requires own { C.of right ≡ self.old.of }
+        requires running { transfer.value.chain.code ≡ None }
+        requires origin { request_origin transfer.value.chain.request ≡ C.origin_of right }
+        requires awaits { AwaitsLink transfer.value.chain.now }
+        ensures serves { (said : List Said) → Serves L.history (record { ticket = C.ticket_of right; slot = C.slot_of right; transfer = transfer.value.chain }) true delayed (beside self.old.worker said) (beside self.new.worker said) }
+        ensures same { self.new ≡ record self.old { worker = self.new.worker } }
+    {
+        let mut transfer = transfer;
+        let rested: &mut Transfer<L, D> = &mut transfer;
+        self.note(&right, rested);
+        self.hold_on(
+            Claimed::waiting(right, transfer),
+            could_go_on(true, delayed, true),
+        );
+    }
+
     // rule turn-room
-    // Has the delivery of a transfer make room, makes the transfer ready, polls it once, and holds it on unless it has ended.
+    // Has the delivery of a transfer make room, makes the transfer ready, polls it once, and holds it on unless it has ended. One that a poll
+    // wouldn't change isn't polled: a worker may hold many that wait for a link.
     fn advance<R: Wait, G: Gate<Link = L>>(
         &mut self,
         rt: &R,
@@ -331,22 +405,16 @@ impl<L: Link, C: Right, D: Delivery, E: Engine<L, C, D>> WorkerCore<L, C, D, E> 
         ensures advances { Advances L.history L.token_of now held.held may_go (beside self.old.worker (G.said gate.old)) (beside self.new.worker (G.said gate.new)) }
         ensures same { self.new ≡ record self.old { worker = self.new.worker } }
     {
+        let has_waited = held.has_waited();
         let (right, mut transfer) = held.into_parts();
-        let polled: &mut Transfer<L, D> = &mut transfer;
-        let has_room = polled.make_room();
+        let ready: &mut Transfer<L, D> = &mut transfer;
+        let has_room = ready.make_room();
         let goes = goes_on(may_go, has_room);
-        let delayed = self.make_ready(gate, now, goes, polled);
-        match self.poll(&right, polled) {
-            Polled::Waits => {
-                let wants = wants_link(polled);
-                self.hold_on(right, transfer, could_go_on(goes, delayed, wants));
-            }
-            Polled::Asks => self.hold_on(right, transfer, goes),
-            Polled::Ended(outcome) => {
-                drop(transfer);
-                self.record(rt, Finished::new(right, outcome));
-            }
+        let delayed = self.make_ready(gate, now, goes, ready);
+        if awaits_link(has_waited, goes, now, ready) {
+            return self.rest(right, transfer, delayed);
         }
+        self.serve(rt, right, transfer, goes, delayed);
     }
 
     // rule worker-requeued-deadline

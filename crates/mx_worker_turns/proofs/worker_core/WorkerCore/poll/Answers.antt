@@ -1,17 +1,4 @@
-use Rattle.std.proofs.Common.{◌∙◌, ℕ, [], ◌∷◌, ◌++◌, refl, ap}
-use Rattle.mx_turn.specs.Workers.{notes}
-use Rattle.mx_transfer.specs.Transfers.{TransferState}
-use Rattle.mx_worker_turns.proofs.Looking.{alike}
 use Rattle.mx_worker_turns.proofs.worker_core.WorkerCore.poll.Goals as goal
 
 pub returns-clause-polls : goal.returns-clause-polls
-returns-clause-polls g c =
-    let counted = c.note.ensures.did ∙ ap (λ (n : ℕ). g.E.Engine.did c.self.inside.engine ++ notes (g.C.Right.ticket_of c.args.right.now) (g.C.Right.slot_of c.args.right.now) n ∷ []) c.received.ensures in
-    rw (← c.self.view_is) (record {
-      new = c.poll_once-stepped.new.transfer.chain;
-      idle = c.keep.new.self;
-      polled = c.poll_once-stepped.ensures.steps;
-      keeps = c.keep.ensures.kept;
-      unlinks = ap (λ (t : TransferState _). t.chain) c.keep.ensures.rest;
-      after = alike _ _ refl refl refl refl refl counted refl;
-    })
+returns-clause-polls g c = rw (← c.self.view_is) (record { new = c.poll_once-stepped.new.transfer.chain; polled = c.poll_once-stepped.ensures.steps; noted = c.note.ensures.noted })
