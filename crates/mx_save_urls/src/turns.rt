@@ -168,7 +168,7 @@ fn end_one<'a, F: Folder, W: Write, Rd: Read + Drop, R: Clock, V: Watch>(
     Err(Stop::NoMessage)
 }
 
-// Waits for the next message for so many milliseconds at most, and ends its URL.
+// Waits for the next message for so many milliseconds at most, and ends its URL. The answer is whether one came.
 fn await_one<
     'a,
     F: Folder,
@@ -184,7 +184,7 @@ fn await_one<
     watch: &mut V,
     timer: Timer,
     milliseconds: u32,
-) -> Result<(), Stop>
+) -> Result<bool, Stop>
     requires going { work.old.book.is_stopped ≡ false }
     requires all { AreAsked work.old.book.asking work.old.book.slots (K.asked desk.old) }
     requires waits { AreBroughtOn work.old.book.slots work.old.waiting }
@@ -194,8 +194,11 @@ fn await_one<
     ensures run { IsSameWork work.old work.new }
 {
     match desk.next(rt, milliseconds) {
-        Ok(None) => Ok(()),
-        Ok(Some(ended)) => end_one(rt, work, watch, ended, timer),
+        Ok(None) => Ok(false),
+        Ok(Some(ended)) => match end_one(rt, work, watch, ended, timer) {
+            Ok(()) => Ok(true),
+            Err(stop) => Err(stop),
+        },
         Err(stop) => Err(stop),
     }
 }
@@ -236,12 +239,10 @@ fn await_some<
     let mut ended = ended;
     let mut wait = milliseconds;
     for _ in 0..most {
-        await_one(rt, desk, work, watch, timer, wait)?;
-        let before = ended;
-        ended = report(work, watch, before);
-        if ended == before {
+        if !await_one(rt, desk, work, watch, timer, wait)? {
             return Ok(ended);
         }
+        ended = report(work, watch, ended);
         wait = 0;
     }
     Ok(ended)
