@@ -160,8 +160,8 @@ def urls(base, count):
           + ", ".join(f"{verdict} {code}: {number}" for (verdict, code), number in sorted(told.items())))
 
 def kills(base, count):
-    chance, into, killed = random.Random(1), f"{WORK}/kills.d", 0
-    list_ = list_of(base, range(20000), "urls")
+    chance, into, killed, urls = random.Random(1), f"{WORK}/kills.d", 0, 1500 * count # so many that none is without work
+    list_ = list_of(base, range(urls), "urls")
     for _ in range(count):
         child = saving(list_, into, "--at-once", "64", "--workers", "2", "--skip-existing")
         time.sleep(chance.uniform(0, 0.5))
@@ -171,7 +171,7 @@ def kills(base, count):
     print(f"{killed} of {count} runs killed: {files} files, each whole, and {parts} parts")
     with open(f"{WORK}/told", "wb") as out:
         status = saving(list_, into, "--at-once", "256", "--workers", "2", "--skip-existing", out=out).wait()
-    told = reports(f"{WORK}/told", base, 20000)
+    told = reports(f"{WORK}/told", base, urls)
     files, after = files_of(into)
     there = sum(number for (verdict, _), number in told.items() if verdict in ("saved", "skipped"))
     if status < 0 or after != parts or files != there:
