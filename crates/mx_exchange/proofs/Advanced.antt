@@ -19,7 +19,7 @@ use Rattle.mx_link.specs.declared.answers.Answer.TheVariants as said
 use Rattle.mx_line.specs.Order.{InOrder, most_turn_writes}
 use Rattle.mx_line.specs.Endings.{EndsBy, by_bytes, by_end, by_fault, by_memory, MustRetry, code_of, fault_code, is_given_code}
 use Rattle.mx_exchange.specs.Exchanges.{HopValue, ExchangeState, IsDue, KeepsToken, capped, clocked, dropped}
-use Rattle.mx_exchange.specs.Turns.{How, waits, asks, ends, wire_by, MayTouch, ProbeFails, Probed, most_turn_reads, Answered, GoesOn, EndsWith, StopsWith, Exchanged, unserved, lost, blocked, unfinished, ended, Turns, late, given_up, paused, refused, turned}
+use Rattle.mx_exchange.specs.Turns.{How, waits, asks, ends, wire_by, MayTouch, Probed, most_turn_reads, Answered, GoesOn, EndsWith, StopsWith, Exchanged, unserved, lost, blocked, unfinished, ended, Turns, late, given_up, paused, refused, turned}
 use Rattle.mx_line.specs.Lines.{HandsOver, LineState, ServesTo}
 use Rattle.mx_line.specs.declared.calls.Halt.{Halt}
 use Rattle.mx_line.specs.declared.calls.Halt.TheVariants as halt
@@ -225,13 +225,6 @@ module _ {L : Type 0} (history : L → List Answer) where
   Touch-unserved t new may none same = turned may t (inl (none.1, refl)) (unserved none.0 same)
 
   -- a turn that may touch the link, whose exchange was taken out
-  pub Touch-refused : (t at mid new : ExchangeState L) → at ≡ t → MayTouch t → ProbeFails history at mid → new ≡ mid → Turns history t new waits
-  Touch-refused t at mid new same may f n =
-      subst (λ (x : ExchangeState L). Turns history t x waits) (sym n) (refused may (subst (λ (x : ExchangeState L). ProbeFails history x mid) same f))
-
-  pub Touch-turned : (t at mid new : ExchangeState L) (how : How) → at ≡ t → MayTouch t → Probed history at mid → Exchanged history mid new how → Turns history t new how
-  Touch-turned t at mid new how same may p x = turned may mid (subst (λ (y : ExchangeState L). Probed history y mid) same p) x
-
   -- a hop is of the exchange's request
   pub Turns-request : (t new : ExchangeState L) (o : HopValue) → Turns history t new (ends o) → o.request ≡ t.request
   Turns-request t new o (late due is s) = s.ends.request
@@ -406,20 +399,9 @@ module _ {L : Type 0} (history : L → List Answer) where
     keeps_both (Some x) (Some y) (Some z) stays a b = b ∙ a
 
     -- a probe leaves the link where it doesn't drop it
-    keeps_probed : (t mid : ExchangeState L) (is : Option L) → Probed history t mid → KeepsToken token_of t.link mid.link → KeepsToken token_of mid.link is → KeepsToken token_of t.link is
+    pub keeps_probed : (t mid : ExchangeState L) (is : Option L) → Probed history t mid → KeepsToken token_of t.link mid.link → KeepsToken token_of mid.link is → KeepsToken token_of t.link is
     keeps_probed t mid is (inl p) a b = keeps_both t.link mid.link is (λ e. sym (ap (λ (x : ExchangeState L). x.link) p.1) ∙ e) a b
     keeps_probed t mid is (inr p) a b = keeps_both t.link mid.link is (λ e. let none : Some p.next ≡ None = sym (ap (λ (x : ExchangeState L). x.link) p.after) ∙ e in cc) a b
-
-    keeps_dropped : (t new : ExchangeState L) → ProbeFails history t new → KeepsToken token_of t.link new.link
-    keeps_dropped t new f = subst (λ (x : Option L). KeepsToken token_of t.link x) (sym (ap (λ (x : ExchangeState L). x.link) f.after)) (keeps_none t.link)
-
-    pub touch_dropped : (t at mid new : ExchangeState L) → at ≡ t → ProbeFails history at mid → new ≡ mid → KeepsToken token_of t.link new.link
-    touch_dropped t at mid new same f n =
-        subst (λ (x : ExchangeState L). KeepsToken token_of x.link new.link) same
-        (subst (λ (x : ExchangeState L). KeepsToken token_of at.link x.link) (sym n) (keeps_dropped at mid f))
-
-    pub touch_kept : (t at mid : ExchangeState L) (is : Option L) → at ≡ t → Probed history at mid → KeepsToken token_of at.link mid.link → KeepsToken token_of mid.link is → KeepsToken token_of t.link is
-    touch_kept t at mid is same p a b = subst (λ (x : ExchangeState L). KeepsToken token_of x.link is) same (keeps_probed at mid is p a b)
 
     pub stop_kept : (old t at new : ExchangeState L) (o : HopValue) → t ≡ clocked old → at ≡ t → StopsWith at new o → KeepsToken token_of old.link new.link
     stop_kept old t at new o e same s = keeps_same old.link new.link (s.link ∙ ap (λ (x : ExchangeState L). x.link) same ∙ ap (λ (x : ExchangeState L). x.link) e)

@@ -16,6 +16,10 @@ use Rattle.mx_request.specs.Redirects.{is_redirect_status}
 use Rattle.mx_body.specs.Decision.{bytes_at}
 use Rattle.mx_body.specs.declared.part.Part.{Part}
 
+-- what goes on is what was taken out
+pub live_is : {L : Type 0} (a b : Live L) → stage.Live a ≡ stage.Live b → b ≡ a
+live_is {L} a b e = let same : stage.Live a ≡ stage.Live b = e in cc
+
 module _ {L : Type 0} (history : L → List Answer) (asked : L → List ℕ) (token_of : L → ℕ) (request : RequestValue) (limit : Option ℕ) (failure : Option Code) where
   no_line : (fresh more : Bool) (line : Option (LineState L)) → link_of line ≡ None → IfSome line (IsServing history asked token_of request limit more failure)
   no_line fresh more None e = tt

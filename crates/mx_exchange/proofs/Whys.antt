@@ -16,7 +16,7 @@ use Rattle.mx_reader.specs.Readers.{ReaderValue, IsReader}
 use Rattle.mx_reader.specs.Whys.{HasReason, HasNone, IsReasonOf, HasNoReason}
 use Rattle.mx_reader.proofs.CodeLemmas.{codes_are_listed}
 use Rattle.mx_exchange.specs.Exchanges.{HopValue}
-use Rattle.mx_exchange.specs.Hops.{IsHop, IsWhole, TellsReason}
+use Rattle.mx_exchange.specs.Hops.{IsHop, TellsReason}
 use Rattle.mx_exchange.proofs.HopLemmas.{whole_of}
 
 -- it is that of the reader

@@ -5,7 +5,7 @@ ghost use Rattle.mx_types.specs.declared.code.Code.TheVariants as code;
 ghost use Rattle.mx_exchange.specs.Exchanges.{capped};
 ghost use Rattle.mx_line.specs.Lines.{IsGoing, MayHandOut};
 ghost use Rattle.mx_exchange.specs.Hops.{MayEnd};
-ghost use Rattle.mx_exchange.specs.Stages.{limit_by, link_of, answers_of, reused_of};
+ghost use Rattle.mx_exchange.specs.Stages.{limit_by, link_of, answers_of, reused_of, code_of};
 
 use crate::handling::Handling;
 use crate::hops::Hop;
@@ -15,6 +15,7 @@ use mx_reader::Reader;
 use mx_request::Request;
 use mx_types::{Code, History};
 use std::alloc::Global;
+use std::mem;
 use std::snapshot::Snapshot;
 
 /// A request, the reader of its response, and the link that serves it, if one does.
@@ -106,6 +107,18 @@ impl<L: Link> Stage<L> {
             line: None,
             is_kept: false,
         })
+    }
+
+    /// Takes out what goes on, and leaves the placeholder.
+    pub fn take_live(&mut self) -> Live<L>
+        requires { code_of self.old ≡ None }
+        ensures live { self.old ≡ stage.Live result }
+        ensures gone { self.new ≡ stage.Ended (record { code = code.Ok; received = 0; line = None; is_kept = false }) }
+    {
+        match mem::replace(self, Stage::gone()) {
+            Stage::Live(live) => live,
+            Stage::Ended(_) => unreachable!(),
+        }
     }
 }
 

@@ -82,14 +82,6 @@ impl<L: Link> Exchange<L> {
         }
     }
 
-    // Goes on with this stage.
-    fn go_on(&mut self, live: Live<L>)
-        requires { IsAlive L.history L.asked L.token_of self.old.request self.old.limit self.old.needs_fresh self.old.failure live }
-        ensures { self.new ≡ alive self.old live }
-    {
-        drop(mem::replace(&mut self.stage, Stage::Live(live)));
-    }
-
     // Begins anew: only a link that was never in use will do.
     fn begin_again(&mut self, request: Request)
         requires { request ≡ self.old.request }
@@ -132,6 +124,14 @@ impl<L: Link> Exchange<L> {
         end(request, reader, code, answers, is_reused)
     }
 
+    // Goes on with this stage.
+    fn go_on(&mut self, live: Live<L>)
+        requires { IsAlive L.history L.asked L.token_of self.old.request self.old.limit self.old.needs_fresh self.old.failure live }
+        ensures { self.new ≡ alive self.old live }
+    {
+        drop(mem::replace(&mut self.stage, Stage::Live(live)));
+    }
+
     // rule exchange-probe
     // Asks a reused link for a byte first, and drops the link unless it answers that it would wait. False where it was dropped.
     fn probe(&mut self, live: &mut Live<L>) -> bool
@@ -153,64 +153,75 @@ impl<L: Link> Exchange<L> {
         false
     }
 
-    // rule exchange-kept-link
-    // Asks the link, if there is one, with this buffer for its reads.
-    fn exchange(&mut self, live: Live<L>, buffer: &mut ReadBuffer, out: &mut Window) -> Turned
-        requires live { IsAlive L.history L.asked L.token_of self.old.request self.old.limit self.old.needs_fresh self.old.failure live }
-        requires probed { (alive self.old live).needs_probe ≡ false }
-        ensures turn { Exchanged L.history (alive self.old live) self.new (how_of result) }
-        ensures handed { HandsOver (alive self.old live).content (content_by self.new (how_of result)) out.old.items out.new.items }
-        ensures token { KeepsToken L.token_of (link_of live.line) self.new.link }
+    // Whether it has a link that is still to be probed.
+    fn needs_probe(&self) -> bool
+        requires { self.now.code ≡ None }
+        ensures { result ≡ self.now.needs_probe }
     {
-        let Live {
-            request,
-            mut reader,
-            line,
-        } = live;
-        let Some(mut line) = line else {
-            self.go_on(Live {
-                request,
-                reader,
-                line: None,
-            });
+        let Stage::Live(live) = &self.stage else {
+            unreachable!()
+        };
+        match &live.line {
+            Some(line) => line.needs_probe(),
+            None => false,
+        }
+    }
+
+    // Probes the link where that is needed. False where it was dropped.
+    fn probe_first(&mut self) -> bool
+        requires going { self.old.code ≡ None }
+        ensures probe { ProbeSo result L.history self.old self.new }
+        ensures going { self.new.code ≡ None }
+        ensures content { self.new.content ≡ self.old.content }
+        ensures token { KeepsToken L.token_of self.old.link self.new.link }
+    {
+        if !self.needs_probe() {
+            return true;
+        }
+        let mut live = self.take();
+        let serves = self.probe(&mut live);
+        self.go_on(live);
+        serves
+    }
+
+    // rule exchange-kept-link
+    // Asks the link, if there is one, with this buffer for its reads. What goes on stays in its place: most turns find nothing.
+    fn exchange(&mut self, buffer: &mut ReadBuffer, out: &mut Window) -> Turned
+        requires going { self.old.code ≡ None }
+        requires probed { self.old.needs_probe ≡ false }
+        ensures turn { Exchanged L.history self.old self.new (how_of result) }
+        ensures handed { HandsOver self.old.content (content_by self.new (how_of result)) out.old.items out.new.items }
+        ensures token { KeepsToken L.token_of self.old.link self.new.link }
+    {
+        let most_reads = self.handling.most_reads();
+        let Stage::Live(live) = &mut self.stage else {
+            unreachable!()
+        };
+        let Some(line) = &mut live.line else {
             return Turned::Waits;
         };
-        match line.serve(
-            &request,
-            &mut reader,
-            self.handling.most_reads(),
-            buffer,
-            out,
-        ) {
-            Halt::Blocked => {
-                self.go_on(Live {
-                    request,
-                    reader,
-                    line: Some(line),
-                });
-                Turned::Waits
-            }
-            Halt::Unfinished => {
-                self.go_on(Live {
-                    request,
-                    reader,
-                    line: Some(line),
-                });
-                Turned::Asks
-            }
+        match line.serve(&live.request, &mut live.reader, most_reads, buffer, out) {
+            Halt::Blocked => Turned::Waits,
+            Halt::Unfinished => Turned::Asks,
             Halt::Lost => {
+                let Live { request, .. } = self.stage.take_live();
                 self.begin_again(request);
                 Turned::Waits
             }
             Halt::Over(code) => {
                 let answers = line.answers();
                 let is_reused = Snapshot::of(&line.is_reused());
+                let Live {
+                    request,
+                    reader,
+                    line,
+                } = self.stage.take_live();
                 let count = received(&reader);
                 let is_kept = reader.may_keep();
                 self.settle(Ended {
                     code,
                     received: count,
-                    line: Some(line),
+                    line,
                     is_kept,
                 });
                 Turned::Ended(end(request, reader, code, answers, is_reused))
@@ -219,16 +230,16 @@ impl<L: Link> Exchange<L> {
     }
 
     // The same, with the buffer that it has.
-    fn exchange_buffered(&mut self, live: Live<L>, out: &mut Window) -> Turned
-        requires live { IsAlive L.history L.asked L.token_of self.old.request self.old.limit self.old.needs_fresh self.old.failure live }
-        requires probed { (alive self.old live).needs_probe ≡ false }
-        ensures turn { Exchanged L.history (alive self.old live) self.new (how_of result) }
-        ensures handed { HandsOver (alive self.old live).content (content_by self.new (how_of result)) out.old.items out.new.items }
-        ensures token { KeepsToken L.token_of (link_of live.line) self.new.link }
+    fn exchange_buffered(&mut self, out: &mut Window) -> Turned
+        requires going { self.old.code ≡ None }
+        requires probed { self.old.needs_probe ≡ false }
+        ensures turn { Exchanged L.history self.old self.new (how_of result) }
+        ensures handed { HandsOver self.old.content (content_by self.new (how_of result)) out.old.items out.new.items }
+        ensures token { KeepsToken L.token_of self.old.link self.new.link }
     {
         let mut buffer = ReadBuffer::new(self.alloc);
         self.swap_buffer(&mut buffer);
-        let turned = self.exchange(live, &mut buffer, out);
+        let turned = self.exchange(&mut buffer, out);
         self.swap_buffer(&mut buffer);
         turned
     }
@@ -240,10 +251,7 @@ impl<L: Link> Exchange<L> {
         ensures live { IsAlive L.history L.asked L.token_of self.new.request self.new.limit self.new.needs_fresh self.new.failure result }
         ensures away { self.new.link ≡ None }
     {
-        match mem::replace(&mut self.stage, Stage::gone()) {
-            Stage::Live(live) => live,
-            Stage::Ended(_) => unreachable!(),
-        }
+        self.stage.take_live()
     }
 
     // Whether it has no link.
@@ -267,12 +275,10 @@ impl<L: Link> Exchange<L> {
         if self.lacks_link() {
             return Turned::Waits;
         }
-        let mut live = self.take();
-        if !self.probe(&mut live) {
-            self.go_on(live);
+        if !self.probe_first() {
             return Turned::Waits;
         }
-        self.exchange_buffered(live, out)
+        self.exchange_buffered(out)
     }
 
     // rule exchange-order
