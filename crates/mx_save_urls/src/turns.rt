@@ -168,48 +168,13 @@ fn end_one<'a, F: Folder, W: Write, Rd: Read + Drop, R: Clock, V: Watch>(
     Err(Stop::NoMessage)
 }
 
-// Waits for the next message for so many milliseconds at most, and ends its URL. The answer is whether one came.
-fn await_one<
-    'a,
-    F: Folder,
-    K: Requests<Spool<F>>,
-    W: Write,
-    Rd: Read + Drop,
-    R: Wait + AllocGlobal + Clock,
-    V: Watch,
->(
-    rt: &R,
-    desk: &mut K,
-    work: &mut Work<'a, F, W, Rd>,
-    watch: &mut V,
-    timer: Timer,
-    milliseconds: u32,
-) -> Result<bool, Stop>
-    requires going { work.old.book.is_stopped ≡ false }
-    requires all { AreAsked work.old.book.asking work.old.book.slots (K.asked desk.old) }
-    requires waits { AreBroughtOn work.old.book.slots work.old.waiting }
-    ensures waits { OnOk result (AreBroughtOn work.new.book.slots work.new.waiting) }
-    ensures all { OnOk result (AreAsked work.new.book.asking work.new.book.slots (K.asked desk.new)) }
-    ensures going { OnOk result (work.new.book.is_stopped ≡ false) }
-    ensures run { IsSameWork work.old work.new }
-{
-    match desk.next(rt, milliseconds) {
-        Ok(None) => Ok(false),
-        Ok(Some(ended)) => match end_one(rt, work, watch, ended, timer) {
-            Ok(()) => Ok(true),
-            Err(stop) => Err(stop),
-        },
-        Err(stop) => Err(stop),
-    }
-}
-
 // How many messages are taken at a time, where so many transfers are added: half of those at most, so that workers have the others meanwhile.
 fn most_ends(added: usize) -> usize {
     (added / 2).max(1).min(MOST_ENDS)
 }
 
-// Waits for the next message likewise, and ends its URL and those of the messages that are there by then, up to so many, so that the next
-// transfers are begun, and workers woken, a few at a time. The answer is how many URLs have ended.
+// Waits for the next message for so many milliseconds at most, and ends its URL and those of the messages that are there by then, up to so
+// many, so that the next transfers are begun, and workers woken, a few at a time. The answer is how many URLs have ended.
 fn await_some<
     'a,
     F: Folder,
@@ -239,9 +204,10 @@ fn await_some<
     let mut ended = ended;
     let mut wait = milliseconds;
     for _ in 0..most {
-        if !await_one(rt, desk, work, watch, timer, wait)? {
+        let Some(message) = desk.next(rt, wait)? else {
             return Ok(ended);
-        }
+        };
+        end_one(rt, work, watch, message, timer)?;
         ended = report(work, watch, ended);
         wait = 0;
     }
