@@ -4,7 +4,7 @@ use Rattle.std.specs.List.{AllByRecursion}
 use Rattle.mx_link.specs.declared.answers.Answer.{Answer}
 use Rattle.mx_gate.specs.Said.{Said, waited}
 use Rattle.mx_chain.specs.Outcomes.{OutcomeValue}
-use Rattle.mx_transfer.specs.Transfers.{TransferState}
+use Rattle.mx_chain.specs.Chains.{ChainState}
 use Rattle.mx_multi.specs.Seats.{SeatView}
 use Rattle.mx_worker.specs.Work.{WorkerRan}
 use Rattle.mx_crew.specs.Gates.{OpensWithin}
@@ -12,7 +12,7 @@ use Rattle.mx_crew.specs.declared.worked.Counts.{Counts}
 
 -- the seat of a worker
 abbrev pub WorkerSeatView : Type 0 → Type 0
-WorkerSeatView L = SeatView (TransferState L) OutcomeValue
+WorkerSeatView L = SeatView (ChainState L) OutcomeValue
 
 -- what a worker did that did nothing
 abbrev pub no_counts : Counts

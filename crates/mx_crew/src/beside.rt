@@ -17,7 +17,6 @@ use mx_link::Link;
 use mx_run_io::Stop;
 use mx_sink::Delivery;
 use std::alloc::{AllocGlobal, Global};
-use std::random::RandomSource;
 use std::snapshot::Snapshot;
 use std::sync::Wait;
 use std::thread::{Promise, PromisedHandle, Scope, Threads};
@@ -29,7 +28,7 @@ pub(crate) trait Job<D> {
     ghost gives: { Self → D → Type 0 };
 
     /// Does it, with what the gates of a run have in common. It may wait.
-    fn work<R: Wait + RandomSource + AllocGlobal>(self, rt: &R, common: &Common) -> D
+    fn work<R: Wait + AllocGlobal>(self, rt: &R, common: &Common) -> D
         ensures { gives self result };
 }
 
@@ -74,7 +73,7 @@ fn start_one<
     's,
     'r: 's,
     E,
-    R: Threads + Wait + RandomSource + AllocGlobal + Sync + 's,
+    R: Threads + Wait + AllocGlobal + Sync + 's,
     J: Job<D> + Send + Drop + 's,
     D: Send + Drop + 's,
 >(
@@ -110,7 +109,7 @@ fn start_all<
     's,
     'r: 's,
     E,
-    R: Threads + Wait + RandomSource + AllocGlobal + Sync + 's,
+    R: Threads + Wait + AllocGlobal + Sync + 's,
     J: Job<D> + Send + Drop + 's,
     D: Send + Drop + 's,
 >(
@@ -195,7 +194,7 @@ fn done_if<D: Drop>(stands: Result<(), Stop>, done: Vec<D>) -> Result<Vec<D>, St
 fn run_all<
     'm,
     's,
-    R: Threads + Wait + RandomSource + AllocGlobal + Sync,
+    R: Threads + Wait + AllocGlobal + Sync,
     J: Job<D> + Send + Drop,
     D: Send + Drop,
     T: Drop,
@@ -277,7 +276,7 @@ pub fn run_beside<
     'm,
     L: Link + Send,
     D: Delivery + Send,
-    R: Threads + Wait + RandomSource + AllocGlobal + Sync,
+    R: Threads + Wait + AllocGlobal + Sync,
     G: Gate<Link = L> + Send + Drop,
     T: Drop,
     F: FnOnce(Result<(), Stop>) -> T + Drop,

@@ -5,7 +5,7 @@ ghost use Rattle.mx_multi.specs.Opening.{are_within};
 use mx_link::Link;
 use mx_multi::{Limits, Multi, OpenError, OwnedMulti, Seat, WorkerSeat};
 use mx_sink::{Delivery, Held};
-use mx_transfer::{Outcome, Queued};
+use mx_transfer_core::{Outcome, Queued};
 use mx_types::OutOfMemory;
 use std::alloc::AllocGlobal;
 use std::sync::Wait;

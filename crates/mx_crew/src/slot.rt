@@ -11,11 +11,10 @@ use mx_gate::{Gate, Turn};
 use mx_link::Link;
 use mx_multi::{AtWork, Multi, Seated, WorkerSeat};
 use mx_sink::{Delivery, Held};
-use mx_transfer::{Outcome, Queued};
+use mx_transfer_core::{Outcome, Queued};
 use mx_worker::{WorkerEnd, run_worker};
 use std::alloc::{AllocGlobal, Global};
 use std::marker::Brand;
-use std::random::RandomSource;
 use std::snapshot::Snapshot;
 use std::sync::Wait;
 
@@ -117,7 +116,7 @@ fn done_of<L: Link, D: Delivery>(end: WorkerEnd<'_, L, D>) -> SlotEnd<L, D>
 // Works until the gate stops it, and says what it did. The seat comes back as it was where memory for the start was refused, and the gate
 // doesn't stop it.
 #[tactic(auto, using(crate::proofs::Workers::try_ran, crate::proofs::Workers::try_refused))]
-fn work_once<'m, L: Link, D: Delivery, R: Wait + RandomSource + AllocGlobal, G: Gate<Link = L>>(
+fn work_once<'m, L: Link, D: Delivery, R: Wait + AllocGlobal, G: Gate<Link = L>>(
     rt: &R,
     seat: Seated<'m, AtWork, Queued<L, D>, Outcome<D>>,
     gate: &mut G,
@@ -134,7 +133,7 @@ fn work_once<'m, L: Link, D: Delivery, R: Wait + RandomSource + AllocGlobal, G: 
 
 // Works until the gate stops it, and says what it did. Where memory for its start is refused, it tries again after a while.
 #[tactic(auto, using(crate::proofs::Workers::refused_again, crate::proofs::Workers::has_worked))]
-fn work_on<'m, L: Link, D: Delivery, R: Wait + RandomSource + AllocGlobal, G: Gate<Link = L>>(
+fn work_on<'m, L: Link, D: Delivery, R: Wait + AllocGlobal, G: Gate<Link = L>>(
     rt: &R,
     seat: Seated<'m, AtWork, Queued<L, D>, Outcome<D>>,
     gate: &mut G,
@@ -166,14 +165,7 @@ fn shown<'m, L: Link, D: Delivery>(
 }
 
 // Works as `Job::work` says. What the gate had said is picked by who calls it.
-fn work_at<
-    'm,
-    L: Link,
-    D: Delivery,
-    R: Wait + RandomSource + AllocGlobal,
-    G: Gate<Link = L>,
-    B: Before,
->(
+fn work_at<'m, L: Link, D: Delivery, R: Wait + AllocGlobal, G: Gate<Link = L>, B: Before>(
     rt: &R,
     common: &Common,
     seat: Seated<'m, AtWork, Queued<L, D>, Outcome<D>>,
@@ -196,11 +188,7 @@ impl<'m, L: Link, G: Gate<Link = L> + Drop, D: Delivery> Job<Worked<L, G, D>>
 
     // Works until the gate stops it, and says what it did: the gate comes back. Where memory for its start is refused, it tries again after a
     // while, and the gate tells so. Tests show that it ends only where its gate stops it.
-    fn work<R: Wait + RandomSource + AllocGlobal>(
-        self,
-        rt: &R,
-        common: &Common,
-    ) -> Worked<L, G, D> {
+    fn work<R: Wait + AllocGlobal>(self, rt: &R, common: &Common) -> Worked<L, G, D> {
         let WorkerSlot { seat, gate } = self;
         work_at::<L, D, R, G, Brand>(rt, common, seat, gate)
     }

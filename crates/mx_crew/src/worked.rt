@@ -6,7 +6,7 @@ use mx_gate::Said;
 use mx_link::Link;
 use mx_multi::WorkerSeat;
 use mx_sink::{Delivery, Held};
-use mx_transfer::{Outcome, Queued};
+use mx_transfer_core::{Outcome, Queued};
 use mx_types::History;
 use std::marker::Model;
 use std::snapshot::Snapshot;

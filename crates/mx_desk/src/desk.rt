@@ -22,7 +22,7 @@ use mx_request::Request;
 use mx_request::laws::origin_is_whole_request;
 use mx_run_io::Stop;
 use mx_sink::{Delivery, Held};
-use mx_transfer::Queued;
+use mx_transfer_core::Queued;
 use mx_types::{HandleId, OutOfMemory, Ticket};
 use std::alloc::{AllocGlobal, Global};
 use std::marker::Model;
@@ -169,11 +169,11 @@ impl<'e, 'm, L: Link, D: Delivery> Drop for Desk<'e, 'm, L, D> {
 
 impl<'e, 'm, L: Link, D: Delivery> Model for Desk<'e, 'm, L, D> {
     ghost use Rattle.std.specs.Prelude.{map};
-    ghost use Rattle.mx_transfer.specs.Transfers.{TransferState};
+    ghost use Rattle.mx_chain.specs.Chains.{ChainState};
     ghost use Rattle.mx_desk.specs.Desks.{DeskValue, IsDesk, asked_at};
     ghost use Rattle.mx_desk.specs.Ties.{ties_of};
 
-    ghost Value = { DeskValue (TransferState L) };
+    ghost Value = { DeskValue (ChainState L) };
 
     ghost view = { λ d. record { seats = d.seats; added = d.additions.items; asked = map asked_at d.additions.items; width = d.width; full = d.is_full } };
 

@@ -23,7 +23,7 @@ use mx_multi::{Application, Progress, Seated, WrongSeat};
 use mx_request::Request;
 use mx_run_io::Stop;
 use mx_sink::Delivery;
-use mx_transfer::Queued;
+use mx_transfer_core::Queued;
 use mx_types::{HandleId, Ticket};
 use std::alloc::{AllocFailed, AllocGlobal};
 use std::marker::Model;
@@ -72,10 +72,10 @@ fn add_work<L: Link, D: Delivery, R: Wait>(
     handle: HandleId,
     work: Queued<L, D>,
 ) -> Adding<Ticket, D>
-    requires { work.chain.content ≡ [] }
-    ensures told { IfMade result (λ t. Has seat.new.ties (tie t (request_origin work.chain.request))) }
+    requires { work.content ≡ [] }
+    ensures told { IfMade result (λ t. Has seat.new.ties (tie t (request_origin work.request))) }
     ensures stands { MatchAdding result (λ t. Stands seat.old seat.new (Call.Add handle) (Reply.Added t)) (IsRefused handle seat.old seat.new) (Unit {0}) }
-    ensures back { HandsBack D.handed work.chain.request result }
+    ensures back { HandsBack D.handed work.request result }
     ensures later { IsPrefix seat.old.ties seat.new.ties }
 {
     match answer_of(seat.add(rt, handle, work)) {
@@ -215,10 +215,10 @@ impl<'e, 'm, L: Link, D: Delivery> Drop for Seats<'e, 'm, L, D> {
 }
 
 impl<'e, 'm, L: Link, D: Delivery> Model for Seats<'e, 'm, L, D> {
-    ghost use Rattle.mx_transfer.specs.Transfers.{TransferState};
+    ghost use Rattle.mx_chain.specs.Chains.{ChainState};
     ghost use Rattle.mx_desk.specs.Ties.{SeatsView};
 
-    ghost Value = { SeatsView (TransferState L) };
+    ghost Value = { SeatsView (ChainState L) };
 
     ghost view = { λ s. record { first = s.first; beside = s.beside } };
 }

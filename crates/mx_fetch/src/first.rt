@@ -19,10 +19,9 @@ use mx_link::Link;
 use mx_multi::{Application, Limits, Seated};
 use mx_run_io::Stop;
 use mx_sink::Delivery;
-use mx_transfer::Queued;
+use mx_transfer_core::Queued;
 use mx_types::OutOfMemory;
 use std::alloc::{AllocGlobal, Global};
-use std::random::RandomSource;
 use std::rt::Clock;
 use std::sync::Wait;
 use std::thread::Threads;
@@ -93,7 +92,7 @@ fn fetch_first<
     'm,
     L: Link + Send,
     D: Delivery + Send,
-    R: Threads + Wait + Clock + RandomSource + AllocGlobal + Sync,
+    R: Threads + Wait + Clock + AllocGlobal + Sync,
     G: Gate<Link = L> + Send + Drop,
     E: Fetch<D> + Drop,
 >(rt: &R, crew: &Crew, desk: Desk<'m, 'm, L, D>, first: First<E, G>) -> First<E, G>
@@ -153,7 +152,7 @@ fn fetch_seated<
     'm,
     L: Link + Send,
     D: Delivery + Send,
-    R: Threads + Wait + Clock + RandomSource + AllocGlobal + Sync,
+    R: Threads + Wait + Clock + AllocGlobal + Sync,
     G: Gate<Link = L> + Send + Drop,
     E: Fetch<D> + Drop,
 >(
@@ -179,7 +178,7 @@ fn fetch_seated<
 fn fetch_once<
     L: Link + Send,
     D: Delivery + Send,
-    R: Threads + Wait + Clock + RandomSource + AllocGlobal + Sync,
+    R: Threads + Wait + Clock + AllocGlobal + Sync,
     G: Gate<Link = L> + Send + Drop,
     E: Fetch<D> + Drop,
 >(rt: &R, crew: &Crew, gates: Vec<G>, first: First<E, G>) -> (First<E, G>, Result<Vec<G>, Stop>)
@@ -244,7 +243,7 @@ fn fetch_once<
 pub(crate) fn run_on<
     L: Link + Send,
     D: Delivery + Send,
-    R: Threads + Wait + Clock + RandomSource + AllocGlobal + Sync,
+    R: Threads + Wait + Clock + AllocGlobal + Sync,
     G: Gate<Link = L> + Send + Drop,
     E: Fetch<D> + Drop,
 >(rt: &R, crew: &Crew, gates: Vec<G>, first: First<E, G>) -> First<E, G>

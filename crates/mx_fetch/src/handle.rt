@@ -9,10 +9,9 @@ use mx_link::Link;
 use mx_multi::{Limits, Multi, WorkerSeat};
 use mx_run_io::Stop;
 use mx_sink::Delivery;
-use mx_transfer::Queued;
+use mx_transfer_core::Queued;
 use mx_types::OutOfMemory;
 use std::alloc::{AllocGlobal, Global};
-use std::random::RandomSource;
 use std::sync::Wait;
 use std::thread::Threads;
 
@@ -50,7 +49,7 @@ pub(crate) fn beside_gates<
     'm,
     L: Link + Send,
     D: Delivery + Send,
-    R: Threads + Wait + RandomSource + AllocGlobal + Sync,
+    R: Threads + Wait + AllocGlobal + Sync,
     G: Gate<Link = L> + Send + Drop,
     T: Drop,
     A: FnOnce(Result<(), Stop>) -> T + Drop,

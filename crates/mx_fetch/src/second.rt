@@ -16,10 +16,9 @@ use mx_link::Link;
 use mx_multi::{Application, Limits, Seated};
 use mx_run_io::Stop;
 use mx_sink::Delivery;
-use mx_transfer::Queued;
+use mx_transfer_core::Queued;
 use std::alloc::AllocGlobal;
 use std::mem;
-use std::random::RandomSource;
 use std::rt::Clock;
 use std::sync::Wait;
 use std::thread::Threads;
@@ -108,7 +107,7 @@ impl<'e, L: Link, D: Delivery, E: Fetch<D> + Drop> FetchAt<L, D> for Second<'e, 
 fn fetch_opened<
     L: Link + Send,
     D: Delivery + Send,
-    R: Threads + Wait + Clock + RandomSource + AllocGlobal + Sync,
+    R: Threads + Wait + Clock + AllocGlobal + Sync,
     G: Gate<Link = L> + Send + Drop,
     F: FetchAt<L, D> + Drop,
 >(rt: &R, crew: &Crew, gates: Vec<G>, limits: Limits, fetcher: F) -> (F, Result<Vec<G>, Stop>)
@@ -166,7 +165,7 @@ fn fetch_opened<
 fn fetch_once<
     L: Link + Send,
     D: Delivery + Send,
-    R: Threads + Wait + Clock + RandomSource + AllocGlobal + Sync,
+    R: Threads + Wait + Clock + AllocGlobal + Sync,
     G: Gate<Link = L> + Send + Drop,
     F: FetchAt<L, D> + Drop,
 >(rt: &R, spare: Spare<G>, limits: Limits, fetcher: F) -> (F, Option<Spare<G>>)
@@ -192,7 +191,7 @@ pub(crate) fn fetch_seconds<
     'e,
     L: Link + Send,
     D: Delivery + Send,
-    R: Threads + Wait + Clock + RandomSource + AllocGlobal + Sync,
+    R: Threads + Wait + Clock + AllocGlobal + Sync,
     G: Gate<Link = L> + Send + Drop,
     E: Fetch<D> + Drop,
 >(

@@ -5,7 +5,7 @@ ghost use Rattle.mx_text.specs.declared.fetched.Fetched.TheVariants as fetched;
 ghost use Rattle.mx_run_get.specs.Asked.{IsEnd};
 
 use mx_text::Fetched;
-use mx_transfer::Outcome;
+use mx_transfer_core::Outcome;
 use mx_types::Code;
 use std::alloc::Global;
 use std::marker::Model;

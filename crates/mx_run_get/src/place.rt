@@ -6,7 +6,7 @@ ghost use Rattle.mx_run_get.specs.declared.place.Place.TheVariants as place;
 use crate::end::UrlEnd;
 use mx_request::Request;
 use mx_run_io::Stop;
-use mx_transfer::Outcome;
+use mx_transfer_core::Outcome;
 use std::alloc::Global;
 use std::mem;
 use std::snapshot::Snapshot;

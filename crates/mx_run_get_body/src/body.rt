@@ -17,7 +17,7 @@ use mx_request::Request;
 use mx_run_io::{Options, Stop};
 use mx_sink::{Delivery, Outlet, Window};
 use mx_text::flowing_why_of;
-use mx_transfer::Outcome;
+use mx_transfer_core::Outcome;
 use mx_types::Code;
 use std::alloc::AllocGlobal;
 use std::io::Write;

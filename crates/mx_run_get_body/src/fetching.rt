@@ -10,7 +10,7 @@ use mx_link::Link;
 use mx_request::Request;
 use mx_run_io::Stop;
 use mx_sink::Delivery;
-use mx_transfer::Outcome;
+use mx_transfer_core::Outcome;
 use std::alloc::AllocGlobal;
 use std::marker::Model;
 use std::rt::Clock;

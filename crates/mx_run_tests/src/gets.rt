@@ -2,7 +2,6 @@
 use crate::fakes::Pipe;
 use crate::tally::RowTally;
 use crate::transfers::{Planned, fetch_all};
-use futures::test::MockTask;
 use mx_reason::{Cut, Defect, Fault, Reason};
 use mx_run_io::Output;
 use mx_text::{Fetched, print_get};
@@ -220,13 +219,12 @@ fn see_ends(
 /// Goes through what is to be seen of these GETs, whose ends it adds.
 fn see_into(
     alloc: Global,
-    task: &MockTask,
     tally: &mut RowTally,
     planned: &[Planned],
     seen: ExpectedGet,
     fetched: &mut Vec<Fetched>,
 ) -> io::Result<()> {
-    fetch_all(alloc, task, planned, fetched)?;
+    fetch_all(alloc, planned, fetched)?;
     see_ends(alloc, tally, fetched.as_slice(), seen)?;
     Ok(())
 }
@@ -234,39 +232,29 @@ fn see_into(
 /// Goes through what is to be seen of these GETs.
 fn see(
     alloc: Global,
-    task: &MockTask,
     tally: &mut RowTally,
     planned: &[Planned],
     seen: ExpectedGet,
 ) -> io::Result<()> {
     let mut fetched = Vec::new(alloc);
-    let ended = see_into(alloc, task, tally, planned, seen, &mut fetched);
+    let ended = see_into(alloc, tally, planned, seen, &mut fetched);
     drop(fetched);
     ended
 }
 
-fn see_by(alloc: Global, task: &MockTask, tally: &mut RowTally) -> io::Result<()> {
+fn see_by(alloc: Global, tally: &mut RowTally) -> io::Result<()> {
     for row in &PRINTED {
-        see(alloc, task, tally, row.planned, ExpectedGet::Printed(*row))?;
+        see(alloc, tally, row.planned, ExpectedGet::Printed(*row))?;
     }
     for row in &FAILING {
         let (name, planned, told) = *row;
-        see(
-            alloc,
-            task,
-            tally,
-            &[planned],
-            ExpectedGet::Failing(name, told),
-        )?;
+        see(alloc, tally, &[planned], ExpectedGet::Failing(name, told))?;
     }
     tally.hold("nothing to write", status_of(&[], 0, true) == 0)?;
-    see(alloc, task, tally, &PIPED, ExpectedGet::Pipes)
+    see(alloc, tally, &PIPED, ExpectedGet::Pipes)
 }
 
 /// Goes through all of them.
 pub(crate) fn see_all(rt: &HostRuntime, tally: &mut RowTally) -> io::Result<()> {
-    let task = MockTask::new(rt)?;
-    let seen = see_by(rt.alloc(), &task, tally);
-    drop(task);
-    seen
+    see_by(rt.alloc(), tally)
 }

@@ -1,39 +1,34 @@
 //! Transfers that ended, from scripted links.
-use futures::task::Poll;
-use futures::test::MockTask;
 use mx_link::{ScriptLink, ScriptRead};
 use mx_request::Request;
 use mx_text::Fetched;
-use mx_transfer::Transfer;
+use mx_transfer_core::{Polled, TransferCore};
 use mx_types::{Code, Method, Settings};
 use std::alloc::Global;
 use std::io;
 use std::io::{Error, ErrorKind};
 
 /// Hands over the link, where one is wanted.
-fn attach(transfer: &mut Transfer<ScriptLink>, link: ScriptLink) {
+fn attach(transfer: &mut TransferCore<ScriptLink>, link: ScriptLink) {
     if transfer.wants().is_some() {
         transfer.attach(link, false);
     }
 }
 
 /// The end that one poll gives; none where the transfer has ended or waits.
-fn poll(
-    alloc: Global,
-    task: &MockTask,
-    transfer: &mut Transfer<ScriptLink>,
-) -> io::Result<Fetched> {
+fn poll(alloc: Global, transfer: &mut TransferCore<ScriptLink>) -> io::Result<Fetched> {
     if transfer.spent() {
         return Err(Error::from(ErrorKind::BrokenPipe));
     }
-    match task.poll(transfer) {
-        Poll::Ready(ended) => Ok(Fetched::of(alloc, ended)),
-        Poll::Pending => Err(Error::from(ErrorKind::WouldBlock)),
+    match transfer.poll() {
+        Polled::Ended(ended) => Ok(Fetched::of(alloc, ended)),
+        Polled::Waits => Err(Error::from(ErrorKind::WouldBlock)),
+        Polled::Asks => Err(Error::from(ErrorKind::WouldBlock)),
     }
 }
 
 /// A GET whose link gives the response and then ends.
-fn start(alloc: Global, response: &[u8]) -> io::Result<Transfer<ScriptLink>> {
+fn start(alloc: Global, response: &[u8]) -> io::Result<TransferCore<ScriptLink>> {
     let Ok(link) = ScriptLink::new(alloc, &[ScriptRead::Bytes(response)], &[]) else {
         return Err(Error::from(ErrorKind::OutOfMemory));
     };
@@ -46,15 +41,15 @@ fn start(alloc: Global, response: &[u8]) -> io::Result<Transfer<ScriptLink>> {
     let Ok(request) = built else {
         return Err(Error::from(ErrorKind::InvalidInput));
     };
-    let mut transfer = Transfer::new(alloc, request);
+    let mut transfer = TransferCore::new(alloc, request);
     attach(&mut transfer, link);
     Ok(transfer)
 }
 
-/// The end of such a GET, which this task polls.
-fn fetch(alloc: Global, task: &MockTask, response: &[u8]) -> io::Result<Fetched> {
+/// The end of such a GET.
+fn fetch(alloc: Global, response: &[u8]) -> io::Result<Fetched> {
     let mut transfer = start(alloc, response)?;
-    let end = poll(alloc, task, &mut transfer);
+    let end = poll(alloc, &mut transfer);
     drop(transfer);
     end
 }
@@ -67,22 +62,17 @@ pub(crate) enum Planned {
 }
 
 /// The end of a GET.
-fn end_of(alloc: Global, task: &MockTask, planned: Planned) -> io::Result<Fetched> {
+fn end_of(alloc: Global, planned: Planned) -> io::Result<Fetched> {
     match planned {
-        Planned::Response(response) => fetch(alloc, task, response),
+        Planned::Response(response) => fetch(alloc, response),
         Planned::Refused(code) => Ok(Fetched::Refused(code)),
     }
 }
 
-/// Adds the end of each GET, which this task polls.
-pub(crate) fn fetch_all(
-    alloc: Global,
-    task: &MockTask,
-    all: &[Planned],
-    ends: &mut Vec<Fetched>,
-) -> io::Result<()> {
+/// Adds the end of each GET.
+pub(crate) fn fetch_all(alloc: Global, all: &[Planned], ends: &mut Vec<Fetched>) -> io::Result<()> {
     for planned in all {
-        let end = end_of(alloc, task, *planned)?;
+        let end = end_of(alloc, *planned)?;
         ends.push(end)?;
     }
     Ok(())

@@ -1,4 +1,2 @@
-mod HandedOn
-pub mod QueuedSends
 pub mod Sends
-pub mod Wakers
+mod Wakers

@@ -1,74 +1,57 @@
 //! A transfer as a future.
-ghost use Rattle.std.specs.Prelude.{◌≡◌, ◌≢◌, ◌≤◌, ◌↔◌, ◌⊎◌, ◌++◌, ℕ, List, [], None, Some, true, false, IsSome, IfSome, is_some, option_map, option_copied};
+ghost use Rattle.std.specs.Prelude.{◌≡◌, ◌≢◌, ◌≤◌, ◌↔◌, ◌⊎◌, ◌++◌, ℕ, List, None, Some, true, false, IsSome, IfSome, [], is_some, option_map, option_copied};
 ghost use Rattle.mx_types.specs.Code.{is_link_code};
 ghost use Rattle.mx_line.specs.Endings.{IsUndecided};
 ghost use Rattle.mx_exchange.specs.Exchanges.{WantsLink, IsDue, IsExchange, KeepsToken, attached, clocked};
 ghost use Rattle.mx_chain.specs.Chains.{IsChain, begun, begun_with_heads, received_of, home_of};
+ghost use Rattle.mx_transfer_core.specs.Deliveries.{begun_for, MakesRoom};
 ghost use Rattle.mx_transfer.specs.Transfers.{TransferState};
 
-use crate::handing::{end_of, hand_on};
 use futures::Future;
 use futures::task::{Context, Poll, Source, Waker};
-use mx_chain::{Chain, Outcome, ReadBuffer, Stepped, Want};
+use mx_chain::{Outcome, Want};
 use mx_link::Link;
 use mx_request::{Endpoint, Request};
-use mx_sink::{Delivery, Held, Window};
+use mx_sink::{Delivery, Held};
+use mx_transfer_core::{Polled, TransferCore};
 use mx_types::{Code, Work};
 use std::alloc::Global;
 use std::marker::Model;
-use std::mem;
 
-/// A request, its hops, what becomes of the content of its response, and what it waits for: its link and its deadline.
+/// A transfer, and what it waits for: its link and its deadline.
 pub struct Transfer<L: Link, D: Delivery = Held> {
-    alloc: Global,
-    chain: Chain<L>,
-    // There until it has ended.
-    delivery: Option<D>,
-    // The content that came since the delivery last had room, in order.
-    rest: Window,
+    core: TransferCore<L, D>,
     link_source: Source,
     time_source: Source,
     // Of the task that polls it, for both sources.
     waker: Option<Waker>,
-    // The last poll asked for another.
-    has_asked: bool,
 }
 
 // Written out, and not derived: a crate that drops transfers then cites the proof of this function, and proves none for each part of one.
 impl<L: Link, D: Delivery> Drop for Transfer<L, D> {
     fn drop(self) {
         let Transfer {
-            alloc: _,
-            chain,
-            delivery,
-            rest,
+            core,
             link_source: _,
             time_source: _,
             waker,
-            has_asked: _,
         } = self;
-        drop(chain);
-        drop(delivery);
-        drop(rest);
+        drop(core);
         drop(waker);
     }
 }
 
 impl<L: Link, D: Delivery> Model for Transfer<L, D> {
-    ghost use Rattle.mx_transfer.specs.Deliveries.{IsDelivering};
     ghost use Rattle.mx_transfer.specs.Transfers.{TransferState};
 
     ghost Value = { TransferState L };
 
     ghost view = { λ t. record {
-      chain = t.chain;
+      chain = t.core;
       link_source = t.link_source.id;
       time_source = t.time_source.id;
       waker = t.waker;
-      has_asked = t.has_asked;
     } };
-
-    ghost invariant = { λ t. IsDelivering D.flows D.handed t.chain t.delivery t.rest.items };
 }
 
 impl<L: Link, D: Delivery> Work for Transfer<L, D> {
@@ -83,18 +66,16 @@ impl<L: Link> Transfer<L, Held> {
     pub fn new(alloc: Global, request: Request) -> Transfer<L, Held>
         ensures chain { result.chain ≡ begun request }
         ensures waker { result.waker ≡ None }
-        ensures unasked { result.has_asked ≡ false }
     {
-        Transfer::of(alloc, Chain::new(alloc, request), Held)
+        Transfer::of(TransferCore::new(alloc, request))
     }
 
     /// The same, which keeps of each hop that it follows its heads alone: the body is freed before the next hop begins.
     pub fn keeping_heads(alloc: Global, request: Request) -> Transfer<L, Held>
         ensures chain { result.chain ≡ begun_with_heads request }
         ensures waker { result.waker ≡ None }
-        ensures unasked { result.has_asked ≡ false }
     {
-        Transfer::of(alloc, Chain::keeping_heads(alloc, request), Held)
+        Transfer::of(TransferCore::keeping_heads(alloc, request))
     }
 }
 
@@ -103,7 +84,6 @@ impl<L: Link, D: Delivery> Transfer<L, D> {
     ghost use Rattle.futures.specs.Slot.{IsLeftIn};
     ghost use Rattle.futures.specs.declared.task.Poll.TheVariants as Poll;
     ghost use Rattle.mx_chain.specs.Outcomes.{limit_by};
-    ghost use Rattle.mx_transfer.specs.Deliveries.{begun_for, MakesRoom};
 
     /// A transfer of the request, which keeps of each hop that it follows its heads alone. Its response is held, or its content is handed to
     /// the delivery, which has none yet, as it comes.
@@ -111,33 +91,20 @@ impl<L: Link, D: Delivery> Transfer<L, D> {
         requires { D.handed delivery ≡ [] }
         ensures chain { result.chain ≡ begun_for (D.flows delivery) request }
         ensures waker { result.waker ≡ None }
-        ensures unasked { result.has_asked ≡ false }
     {
-        let chain = match delivery.most_bytes() {
-            None => Chain::keeping_heads(alloc, request),
-            Some(most_bytes) => Chain::flowing(alloc, request, most_bytes),
-        };
-        Transfer::of(alloc, chain, delivery)
+        Transfer::of(TransferCore::delivering(alloc, request, delivery))
     }
 
     // No poll of it has waited.
-    fn of(alloc: Global, chain: Chain<L>, delivery: D) -> Transfer<L, D>
-        requires limit { chain.now.limit ≡ limit_by (D.flows delivery) }
-        requires content { chain.content ≡ [] }
-        requires none { D.handed delivery ≡ [] }
-        ensures chain { result.chain ≡ chain }
+    fn of(core: TransferCore<L, D>) -> Transfer<L, D>
+        ensures chain { result.chain ≡ core }
         ensures waker { result.waker ≡ None }
-        ensures unasked { result.has_asked ≡ false }
     {
         Transfer {
-            alloc,
-            chain,
-            delivery: Some(delivery),
-            rest: Window::new(alloc),
+            core,
             link_source: Source::new(),
             time_source: Source::new(),
             waker: None,
-            has_asked: false,
         }
     }
 
@@ -159,21 +126,13 @@ impl<L: Link, D: Delivery> Transfer<L, D> {
         ensures handed { (rest : List ℕ) × (self.chain.content ≡ D.handed result.1 ++ rest) }
     {
         let Transfer {
-            alloc: _,
-            chain,
-            delivery,
-            rest,
+            core,
             link_source: _,
             time_source: _,
             waker,
-            has_asked: _,
         } = self;
-        drop(rest);
         drop(waker);
-        match delivery {
-            Some(delivery) => (chain.into_request(), delivery),
-            None => unreachable!(),
-        }
+        core.into_parts()
     }
 
     /// Its delivery, until it has ended. What that was handed is a prefix of the content that was handed on.
@@ -181,7 +140,7 @@ impl<L: Link, D: Delivery> Transfer<L, D> {
         ensures there { self.now.chain.code ≡ None → IsSome result }
         ensures handed { self.now.chain.code ≡ None → IfSome result (λ d. (rest : List ℕ) × (self.now.chain.content ≡ D.handed d.now ++ rest)) }
     {
-        self.delivery.as_ref()
+        self.core.delivery()
     }
 
     /// Has the delivery pass on what it has left. The answer is whether the transfer may be polled as one that isn't paused: the delivery takes
@@ -194,29 +153,7 @@ impl<L: Link, D: Delivery> Transfer<L, D> {
         ensures request { self.new.chain.request ≡ self.old.chain.request }
         ensures same { self.new ≡ record self.old { chain = self.new.chain } }
     {
-        let Some(delivery) = &mut self.delivery else {
-            unreachable!()
-        };
-        let has_room = delivery.make_room();
-        if has_room {
-            return true;
-        }
-        if let Some(code) = delivery.fault() {
-            self.chain.fail(code);
-        }
-        false
-    }
-
-    /// Gives the memory of the content, and takes this one in its place, as who lends one does before a poll and after it. Both are empty.
-    /// Where the delivery had no room for content that came, it stays.
-    pub fn swap_window(&mut self, other: &mut Window)
-        requires { other.old.items ≡ [] }
-        ensures same { self.new ≡ self.old }
-        ensures empty { other.new.items ≡ [] }
-    {
-        if self.rest.is_empty() {
-            mem::swap(&mut self.rest, other);
-        }
+        self.core.make_room()
     }
 
     /// The link that it wants, where it wants one.
@@ -224,7 +161,7 @@ impl<L: Link, D: Delivery> Transfer<L, D> {
         ensures wants { IsSome result ↔ WantsLink self.now.chain.now }
         ensures which { IfSome result (λ want. (want.fresh ≡ self.now.chain.now.needs_fresh) × (want.endpoint.now ≡ self.now.chain.now.request.endpoint)) }
     {
-        self.chain.wants()
+        self.core.wants()
     }
 
     /// Hands over a link that serves nothing else. One that was left of a hop before and not taken is dropped.
@@ -233,7 +170,7 @@ impl<L: Link, D: Delivery> Transfer<L, D> {
         requires fresh { self.old.chain.now.needs_fresh ≡ true → is_reused ≡ false }
         ensures { self.new ≡ record self.old { chain = record self.old.chain { now = attached self.old.chain.now link is_reused; linked = true; link = None } } }
     {
-        self.chain.attach(link, is_reused);
+        self.core.attach(link, is_reused);
     }
 
     /// Gives the code that it ends with at its next poll, as no link can be opened.
@@ -242,49 +179,42 @@ impl<L: Link, D: Delivery> Transfer<L, D> {
         requires code { is_link_code code ≡ true }
         ensures { self.new ≡ record self.old { chain = record self.old.chain { now = record self.old.chain.now { failure = Some code } } } }
     {
-        self.chain.fail_link(code);
-    }
-
-    /// Gives the buffer of its reads, and takes this one in its place, as who lends one does before a poll and after it.
-    pub fn swap_buffer(&mut self, other: &mut ReadBuffer)
-        ensures { self.new ≡ self.old }
-    {
-        self.chain.swap_buffer(other);
+        self.core.fail_link(code);
     }
 
     /// Sets the inputs of the polls until the next call: the moment in milliseconds, and whether it is paused.
     pub fn prepare(&mut self, now: u64, is_paused: bool)
         ensures { self.new ≡ record self.old { chain = record self.old.chain { now = record self.old.chain.now { moment = now; is_paused = is_paused } } } }
     {
-        self.chain.prepare(now, is_paused);
+        self.core.prepare(now, is_paused);
     }
 
     /// Whether a link was attached once.
     pub fn started(&self) -> bool
         ensures { result ≡ self.now.chain.now.is_started }
     {
-        self.chain.started()
+        self.core.started()
     }
 
     /// The moment at which it ends unless it has ended before, all its hops together.
     pub fn deadline(&self) -> Option<u64>
         ensures { result ≡ self.now.chain.now.deadline }
     {
-        self.chain.deadline()
+        self.core.deadline()
     }
 
     /// How many bytes its links have given, in all hops; the answer is at most 4,294,967,295.
     pub fn received(&self) -> u32
         ensures { result ≡ received_of self.now.chain }
     {
-        self.chain.received()
+        self.core.received()
     }
 
     /// The number under which the readiness of its link is reported.
     pub fn token(&self) -> Option<u64>
         ensures { result ≡ option_map L.token_of self.now.chain.now.link }
     {
-        self.chain.token()
+        self.core.token()
     }
 
     /// Wakes the task whose poll waits: its link may have become ready, or its deadline may have come. Nothing happens where no
@@ -297,34 +227,18 @@ impl<L: Link, D: Delivery> Transfer<L, D> {
         }
     }
 
-    /// Whether its last poll asked to be polled again.
-    pub fn has_asked(&self) -> bool
-        ensures { result ≡ self.now.has_asked }
-    {
-        self.has_asked
-    }
-
-    /// What holds of every transfer. It does nothing: a call gives its caller's proof the law.
-    pub fn know(&self)
-        ensures chain { IsChain self.now.chain }
-        ensures hop { IsExchange L.history L.asked L.token_of self.now.chain.now }
-    {
-        // proof: what holds of a chain
-        self.chain.know();
-    }
-
     /// Whether it has ended.
     pub fn spent(&self) -> bool
         ensures { result ≡ is_some self.now.chain.code }
     {
-        self.chain.spent()
+        self.core.spent()
     }
 
     /// The code that it ended with.
     pub fn code(&self) -> Option<Code>
         ensures { result ≡ self.now.chain.code }
     {
-        self.chain.code()
+        self.core.code()
     }
 
     /// A link that served a hop which has ended, and may serve again; `None` where it was taken before, or another was attached.
@@ -332,14 +246,14 @@ impl<L: Link, D: Delivery> Transfer<L, D> {
         ensures link { result ≡ self.old.chain.link }
         ensures rest { self.new ≡ record self.old { chain = record self.old.chain { link = None } } }
     {
-        self.chain.take_link()
+        self.core.take_link()
     }
 
     /// Where the link goes that was attached last. After the end it is given where that link may serve again.
     pub fn link_endpoint(&self) -> Option<&Endpoint>
         ensures { option_copied result ≡ home_of self.now.chain }
     {
-        self.chain.link_endpoint()
+        self.core.link_endpoint()
     }
 
     // Registers with the deadline, where it has one.
@@ -348,7 +262,7 @@ impl<L: Link, D: Delivery> Transfer<L, D> {
         ensures time { IsSome self.new.chain.now.deadline → Hears cx.new self.new.time_source }
         ensures kept { Keeps cx.old cx.new }
     {
-        if self.chain.deadline().is_some() {
+        if self.core.deadline().is_some() {
             let _waiting: Poll<()> = cx.register(&self.time_source, &mut self.waker);
         }
     }
@@ -408,24 +322,10 @@ impl<L: Link, D: Delivery> Future for Transfer<L, D> {
         ensures hop { IsExchange L.history L.asked L.token_of self.new.chain.now }
         ensures undecided { OnPending result (IsUndecided self.new.chain.now.limit self.new.chain.now.request.method self.new.chain.now.answers) }
     {
-        self.has_asked = false;
-        let stepped = self.chain.turn(&mut self.rest);
-        let Some(delivery) = &mut self.delivery else {
-            unreachable!()
-        };
-        hand_on(delivery, &mut self.rest);
-        match stepped {
-            Stepped::Ended(end) => Poll::Ready(end_of(
-                self.alloc,
-                end,
-                self.delivery.take(),
-                &mut self.rest,
-            )),
-            Stepped::Asks => {
-                self.has_asked = true;
-                cx.yield_now()
-            }
-            Stepped::Waits => self.wait(cx),
+        match self.core.poll() {
+            Polled::Ended(outcome) => Poll::Ready(outcome),
+            Polled::Asks => cx.yield_now(),
+            Polled::Waits => self.wait(cx),
         }
     }
 }

@@ -1,3 +1,5 @@
+pub mod Deeds
+pub mod Engines
 pub mod Idle
 pub mod IdleLaws
 pub mod InOrder

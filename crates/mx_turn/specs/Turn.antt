@@ -13,8 +13,8 @@ use Rattle.mx_exchange.specs.Exchanges.{WantsLink, IsDue, attached}
 use Rattle.mx_chain.specs.Chains.{ChainState, received_of, home_of}
 use Rattle.mx_chain.specs.Outcomes.{OutcomeValue}
 use Rattle.mx_chain.specs.Steps.{How, waits, asks, ends, Steps}
-use Rattle.mx_transfer.specs.Deliveries.{MakesRoom}
-use Rattle.mx_transfer.specs.Transfers.{Delivers}
+use Rattle.mx_transfer_core.specs.Deliveries.{MakesRoom}
+use Rattle.mx_transfer_core.specs.Cores.{Delivers}
 use Rattle.mx_gate.specs.Said.{Said, told, asked, opened, lacked, waited}
 use Rattle.mx_turn.specs.Workers.{Held, SetAside, Finish, lacking, Return, claims, looks, notes, finishes, gives_back, Worker, in_hand, does, hears, holds}
 

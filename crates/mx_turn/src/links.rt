@@ -10,7 +10,7 @@ use mx_gate::Gate;
 use mx_link::Link;
 use mx_request::Endpoint;
 use mx_sink::Delivery;
-use mx_transfer::Transfer;
+use mx_transfer_core::TransferCore;
 use mx_types::{Code, OutOfMemory};
 use std::alloc::Global;
 use std::marker::Model;
@@ -39,11 +39,10 @@ impl<L: Link> Model for Links<L> {
 }
 
 // Hands the transfer what was opened for it: a link, as one that was never in use, or the code of why there is none.
-fn give<L: Link, D: Delivery>(transfer: &mut Transfer<L, D>, opened: Result<L, Code>)
-    requires wanted { WantsLink transfer.old.chain.now }
+fn give<L: Link, D: Delivery>(transfer: &mut TransferCore<L, D>, opened: Result<L, Code>)
+    requires wanted { WantsLink transfer.old.now }
     requires code { IfErr opened (λ code. is_link_code code ≡ true) }
-    ensures given { MatchResult opened (λ link. transfer.new.chain ≡ served_by transfer.old.chain link false) (λ code. transfer.new.chain ≡ unserved transfer.old.chain code) }
-    ensures same { transfer.new ≡ record transfer.old { chain = transfer.new.chain } }
+    ensures given { MatchResult opened (λ link. transfer.new ≡ served_by transfer.old link false) (λ code. transfer.new ≡ unserved transfer.old code) }
 {
     match opened {
         Ok(link) => transfer.attach(link, false),
@@ -121,12 +120,11 @@ impl<L: Link> Links<L> {
     pub fn supply<G: Gate<Link = L>, D: Delivery>(
         &mut self,
         gate: &mut G,
-        transfer: &mut Transfer<L, D>,
+        transfer: &mut TransferCore<L, D>,
     ) -> bool
-        ensures supplied { Supplies L.history L.token_of transfer.old.chain transfer.new.chain self.old self.new (G.said gate.old) (G.said gate.new) result }
-        ensures same { transfer.new ≡ record transfer.old { chain = transfer.new.chain } }
-        ensures request { transfer.new.chain.request ≡ transfer.old.chain.request }
-        ensures code { transfer.new.chain.code ≡ transfer.old.chain.code }
+        ensures supplied { Supplies L.history L.token_of transfer.old transfer.new self.old self.new (G.said gate.old) (G.said gate.new) result }
+        ensures request { transfer.new.request ≡ transfer.old.request }
+        ensures code { transfer.new.code ≡ transfer.old.code }
         ensures limit { self.new.limit ≡ self.old.limit }
     {
         let Some(want) = transfer.wants() else {
@@ -149,9 +147,9 @@ impl<L: Link> Links<L> {
     // rule redirect-idle-link
     /// Keeps the link that a hop of the transfer has left, where it may serve again. It is dropped where memory for a copy of its endpoint
     /// is refused; no clause says that it is dropped there alone.
-    pub fn keep<D: Delivery>(&mut self, transfer: &mut Transfer<L, D>)
-        ensures kept { Keeps transfer.old.chain self.old self.new }
-        ensures rest { transfer.new ≡ record transfer.old { chain = unlinked transfer.old.chain } }
+    pub fn keep<D: Delivery>(&mut self, transfer: &mut TransferCore<L, D>)
+        ensures kept { Keeps transfer.old self.old self.new }
+        ensures rest { transfer.new ≡ unlinked transfer.old }
         ensures limit { self.new.limit ≡ self.old.limit }
     {
         let Some(link) = transfer.take_link() else {

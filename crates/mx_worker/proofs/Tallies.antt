@@ -22,13 +22,14 @@ use Rattle.mx_multi.proofs.Runs.{later_none, later_more, later_sees}
 use Rattle.mx_journal.specs.Slots.{slot_of}
 use Rattle.mx_multi.specs.Seats.{SeatView, Stands, Sees, Later, FindsOther, ClaimsLeast, ClaimsNothing, given_with}
 use Rattle.mx_multi.specs.Progress.{noted_by}
-use Rattle.mx_transfer.specs.Transfers.{TransferState}
+use Rattle.mx_chain.specs.Chains.{ChainState}
 use Rattle.mx_turn.specs.Workers.{Held, Deed, Finish, starts, claims, looks, notes, finishes, gives_back, recorded, stale, lacking, unseated, returned, ended_before, unreturned}
 use Rattle.mx_link.specs.declared.answers.Answer.{Answer}
 use Rattle.mx_gate.specs.Said.{Said}
 use Rattle.mx_turn.specs.Turn.{Runs}
 use Rattle.mx_turn.proofs.Accounts.{accounted}
-use Rattle.mx_worker_turns.specs.WorkerSteps.{EndView, HandsIn, HasRun, HeldView}
+use Rattle.mx_turn.specs.Engines.{EndView, HandsIn, HeldView}
+use Rattle.mx_worker_turns.specs.WorkerSteps.{HasRun}
 use Rattle.mx_lock.specs.Ties.{TiedClaimed}
 use Rattle.mx_turn.specs.Laws.{claimed_by, recorded_by, stale_by, given_back_by, unseated_by}
 use Rattle.mx_worker.specs.Work.{AreCounted, AreHeld, FoundOther, IsDone, IsUncounted, WasQueued, WorkerRan, answered_by, claimed_whole, code_of, end_of, finish_call, finish_of, handed_back, held_count, noted_by_deed, return_of}
@@ -74,7 +75,7 @@ found_on : {Q : Type 0} (s t u : Seat Q) (more : List Receipt) → GoesOn t u mo
 found_on s t u more on f = record { seat = f.seat; before = f.before; since = f.since; after = f.after ++ more; until = on f.seat f.after f.until; other = f.other }
 
 abbrev Own : Type 0 → Type 0
-Own L = Seat (TransferState L)
+Own L = Seat (ChainState L)
 
 module _ {L : Type 0} where
   abbrev Done : Own L → Own L → List (Deed L) → Type 0
@@ -147,7 +148,7 @@ module _ {L : Type 0} where
       done_more s t u did _ [] w (later_on t u h) refl (claimed ∙ sym (append-nil t.claims)) (given ∙ sym (append-nil t.given)) (noted_on t u h) (inl refl) (All-nil (WasQueued s u))
 
   -- and was given some
-  pub done_claims : (s t u : Own L) (did : List (Deed L)) (h : Held L) (work : TransferState L) → Done s t did → ClaimsLeast code_of size_of u h.ticket work → h.transfer ≡ work.chain → slot_of h.ticket u.seen ≡ Some h.slot
+  pub done_claims : (s t u : Own L) (did : List (Deed L)) (h : Held L) (work : ChainState L) → Done s t did → ClaimsLeast code_of size_of u h.ticket work → h.transfer ≡ work → slot_of h.ticket u.seen ≡ Some h.slot
       → Sees t u → u.claims ≡ t.claims ++ h.ticket ∷ [] → u.given ≡ t.given → Done s u (did ++ claims (Some h) ∷ [])
   done_claims s t u did h work w least same slot sees claimed given =
       let on = later_on t u (inr sees) in
@@ -297,19 +298,19 @@ module _ {L : Type 0} where
   done_return P s t u did h ticket (Err _) w is sees claimed given f = done_unreturned s t u did h w sees.0 f
 
   -- it asked for work
-  pub done_claimed : (s t u : Own L) (did : List (Deed L)) (claimed : Option (TiedClaimed × TransferState L)) (held : Option (HeldView L)) → IsDone s t did → AreHeld claimed held
+  pub done_claimed : (s t u : Own L) (did : List (Deed L)) (claimed : Option (TiedClaimed × ChainState L)) (held : Option (HeldView L)) → IsDone s t did → AreHeld claimed held
       → MatchOption claimed ((u ≡ t) ⊎ Sees t u) (λ r. Sees t u) → MatchOption claimed (u.claims ≡ t.claims) (λ r. u.claims ≡ t.claims ++ r.0.ticket ∷ []) → u.given ≡ t.given
       → MatchOption claimed ((u ≡ t) ⊎ ClaimsNothing code_of size_of u) (λ r. ClaimsLeast code_of size_of u r.0.ticket r.1) → IfSome claimed (λ r. slot_of r.0.ticket u.seen ≡ Some r.0.slot)
       → IsDone s u (did ++ claims (option_map (λ h. h.held) held) ∷ [])
   done_claimed s t u did (Some (c, work)) (Some h) w are sees claimed given least slot =
       subst (λ x. IsDone s u (did ++ claims (Some x) ∷ [])) (sym are.0)
-      (done_claims s t u did (record { ticket = c.ticket; slot = c.slot; transfer = work.chain }) work w least refl slot sees claimed given)
+      (done_claims s t u did (record { ticket = c.ticket; slot = c.slot; transfer = work }) work w least refl slot sees claimed given)
   done_claimed s t u did None None w are sees claimed given least slot = done_claims_none s t u did w sees claimed given
   done_claimed s t u did (Some _) None w are sees claimed given least slot = absurd are
   done_claimed s t u did None (Some _) w are sees claimed given least slot = absurd are
 
 -- what is held is of the claim's engine
-pub held_own : {L : Type 0} (claimed : Option (TiedClaimed × TransferState L)) (held : Option (HeldView L)) (b k : Book) → AreHeld claimed held → IfSome claimed (λ r. r.0.of ≡ b) → b ≡ k → IfSome held (λ h. h.of ≡ k)
+pub held_own : {L : Type 0} (claimed : Option (TiedClaimed × ChainState L)) (held : Option (HeldView L)) (b k : Book) → AreHeld claimed held → IfSome claimed (λ r. r.0.of ≡ b) → b ≡ k → IfSome held (λ h. h.of ≡ k)
 held_own (Some (c, _)) (Some h) b k are own e = are.1 ∙ own ∙ e
 held_own None None b k are own e = tt
 held_own (Some _) None b k are own e = absurd are

@@ -8,6 +8,7 @@ use Rattle.mx_types.specs.declared.call.Receipt.{Receipt}
 use Rattle.mx_types.specs.declared.reply.Reply.{Reply}
 use Rattle.mx_types.specs.declared.reply.Reply.TheVariants as reply
 use Rattle.mx_link.specs.declared.answers.Answer.{Answer}
+use Rattle.mx_chain.specs.Chains.{ChainState}
 use Rattle.mx_chain.specs.Outcomes.{OutcomeValue, size_of}
 use Rattle.mx_journal.specs.declared.replies.FinishReply.{FinishReply}
 use Rattle.mx_journal.specs.declared.replies.FinishReply.TheVariants as finish
@@ -19,10 +20,9 @@ use Rattle.mx_board.specs.Progress.{note, word_of}
 use Rattle.mx_journal.specs.Slots.{slot_of}
 use Rattle.mx_multi.specs.Seats.{SeatView, Later, FindsOther, ClaimsLeast}
 use Rattle.mx_gate.specs.Said.{Said}
-use Rattle.mx_transfer.specs.Transfers.{TransferState}
 use Rattle.mx_turn.specs.Workers.{Deed, Held, claims, looks, notes, finishes, Finish, recorded, stale, lacking, unseated, Return, returned, ended_before, unreturned, Worker, starts, IsOver}
 use Rattle.mx_turn.specs.Turn.{Runs}
-use Rattle.mx_worker_turns.specs.WorkerSteps.{EndView, HeldView}
+use Rattle.mx_turn.specs.Engines.{EndView, HeldView}
 use Rattle.mx_turn.specs.Laws.{claimed_by, recorded_by, stale_by, given_back_by, unseated_by, AreAccounted}
 
 -- the code of an outcome, as in its message
@@ -54,15 +54,15 @@ claimed_whole _ = None
 -- rule worker-seat
 -- At some moment of what the seat did, from s to t, this transfer came first in the queue that was found in the lock, under the least ticket.
 -- It was claimed there, and held as it lay there, with its deadline, at the slot of its addition.
-pub record WasQueued {L : Type 0} (s t : SeatView (TransferState L) OutcomeValue) (h : Held L) : Type 0 where
-  pub seat : SeatView (TransferState L) OutcomeValue
+pub record WasQueued {L : Type 0} (s t : SeatView (ChainState L) OutcomeValue) (h : Held L) : Type 0 where
+  pub seat : SeatView (ChainState L) OutcomeValue
   pub before : List Receipt
   pub since : Later s seat before
   pub after : List Receipt
   pub until : Later seat t after
-  pub work : TransferState L
+  pub work : ChainState L
   pub claimed : ClaimsLeast code_of size_of seat h.ticket work
-  pub same : h.transfer ≡ work.chain
+  pub same : h.transfer ≡ work
   pub slot : slot_of h.ticket seat.seen ≡ Some h.slot
 
 -- at some moment of what the seat did, from s to t, the journal in the lock didn't begin with what the seat had seen by then
@@ -79,7 +79,7 @@ pub record FoundOther {Q : Type 0} (s t : SeatView Q OutcomeValue) : Type 0 wher
 -- What the seat did, from s to t, is these deeds: its further receipts are those of the calls that were answered, in order; its further
 -- claims are what they claimed; likewise what it gave back and the words that it wrote. And nothing was lost for a seat of another handle,
 -- unless the journal in the lock was found not to begin with what the seat had seen then. Each transfer that they claimed was queued so.
-pub record IsDone {L : Type 0} (s t : SeatView (TransferState L) OutcomeValue) (did : List (Deed L)) : Type 0 where
+pub record IsDone {L : Type 0} (s t : SeatView (ChainState L) OutcomeValue) (did : List (Deed L)) : Type 0 where
   pub more : List Receipt
   pub later : Later s t more
   pub answers : map (λ r. (r.call, r.reply)) more ≡ filter_map answered_by did
@@ -103,7 +103,7 @@ pub record AreCounted {L : Type 0} (did : List (Deed L)) (recorded_count stale_c
 
 -- A worker ran, with this seat and this gate, before and after: turn after turn, until it was told to stop and had nothing in flight. What
 -- the seat did is what the worker did in those turns, and what the gate said is what it said there. Each claim came to one end.
-pub record WorkerRan {L : Type 0} (history : L → List Answer) (token_of : L → ℕ) (s t : SeatView (TransferState L) OutcomeValue) (was is : List Said) (recorded_count stale_count given_back_count : ℕ) : Type 0 where
+pub record WorkerRan {L : Type 0} (history : L → List Answer) (token_of : L → ℕ) (s t : SeatView (ChainState L) OutcomeValue) (was is : List Said) (recorded_count stale_count given_back_count : ℕ) : Type 0 where
   pub last : Worker L
   pub run : Runs history token_of (record (starts s.of.limits.max_connects) { said = was }) last
   pub over : IsOver last
@@ -148,8 +148,8 @@ return_of (Ok (giving.Stale _)) = ended_before
 return_of (Err _) = unreturned
 
 -- a claim and its transfer, as they are held
-abbrev pub AreHeld : {L : Type 0} → Option (TiedClaimed × TransferState L) → Option (HeldView L) → Type 0
-AreHeld (Some (c, work)) (Some h) = (h.held ≡ record { ticket = c.ticket; slot = c.slot; transfer = work.chain }) × (h.of ≡ c.of)
+abbrev pub AreHeld : {L : Type 0} → Option (TiedClaimed × ChainState L) → Option (HeldView L) → Type 0
+AreHeld (Some (c, work)) (Some h) = (h.held ≡ record { ticket = c.ticket; slot = c.slot; transfer = work }) × (h.of ≡ c.of)
 AreHeld None None = Unit {0}
 AreHeld _ _ = ⊥
 

@@ -4,9 +4,9 @@ ghost use Rattle.std.specs.Prelude.{◌≡◌};
 use mx_link::Link;
 use mx_lock::TiedClaim;
 use mx_sink::Delivery;
-use mx_transfer::Queued;
+use mx_transfer_core::Queued;
+use mx_turn::{Right, Tied};
 use mx_types::Ticket;
-use mx_worker_turns::{Right, Tied};
 use std::marker::Model;
 
 /// A claim of queued work. Contracts see it as the claim.

@@ -7,4 +7,4 @@ mod tally;
 mod worker;
 
 pub use crate::worker::{WorkerEnd, run_worker};
-pub use mx_transfer::Queued;
+pub use mx_transfer_core::Queued;

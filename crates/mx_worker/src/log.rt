@@ -7,8 +7,8 @@ use crate::claims::WorkerClaim;
 use mx_journal::{FinishReply, GiveBackReply};
 use mx_link::Link;
 use mx_sink::Delivery;
+use mx_turn::{Claimed, Done, Finished};
 use mx_types::History;
-use mx_worker_turns::{Claimed, Done, Finished};
 use std::marker::Model;
 use std::snapshot::Snapshot;
 

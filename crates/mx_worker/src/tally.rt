@@ -2,7 +2,7 @@
 ghost use Rattle.std.specs.Prelude.{◌≡◌, ◌∷◌, ◌++◌, [], option_map, IfSome};
 ghost use Rattle.mx_turn.specs.Workers.{Return, claims, looks, notes, gives_back};
 ghost use Rattle.mx_request.specs.Request.{request_origin};
-ghost use Rattle.mx_worker_turns.specs.WorkerSteps.{HandsIn};
+ghost use Rattle.mx_turn.specs.Engines.{HandsIn};
 ghost use Rattle.mx_worker.specs.Work.{AreCounted, AreHeld, IsDone, end_of};
 
 use crate::claims::WorkerClaim;
@@ -12,42 +12,48 @@ use mx_link::Link;
 use mx_lock::TiedClaim;
 use mx_multi::{AtWork, Seated};
 use mx_sink::Delivery;
-use mx_transfer::{Outcome, Queued};
+use mx_transfer_core::{Outcome, Queued};
+use mx_turn::{Claimed, Done, Engine, Finished, Tied};
 use mx_types::{Look, Ticket};
-use mx_worker_turns::{Claimed, Done, Engine, Finished, Tied};
 use std::marker::Model;
 use std::mem;
 use std::snapshot::Snapshot;
 use std::sync::Wait;
 
 /// The seat of a running worker, beside the seat as the worker began, and what was done with it since. Only the calls here touch it.
-pub(crate) struct Tally<'m, L: Link, D: Delivery> {
+pub(crate) struct Tally<'m, 'r, R: Wait, L: Link, D: Delivery> {
+    rt: &'r R,
     start: Snapshot<Seated<'m, AtWork, Queued<L, D>, Outcome<D>>>,
     seat: Seated<'m, AtWork, Queued<L, D>, Outcome<D>>,
     log: Log<L, D>,
 }
 
-impl<'m, L: Link, D: Delivery> Drop for Tally<'m, L, D> {
+impl<'m, 'r, R: Wait, L: Link, D: Delivery> Drop for Tally<'m, 'r, R, L, D> {
     fn drop(self) {
-        let Tally { start, seat, log } = self;
+        let Tally {
+            rt: _,
+            start,
+            seat,
+            log,
+        } = self;
         drop(start);
         drop(seat);
         drop(log);
     }
 }
 
-impl<'m, L: Link, D: Delivery> Model for Tally<'m, L, D> {
-    ghost use Rattle.mx_transfer.specs.Transfers.{TransferState};
+impl<'m, 'r, R: Wait, L: Link, D: Delivery> Model for Tally<'m, 'r, R, L, D> {
+    ghost use Rattle.mx_chain.specs.Chains.{ChainState};
     ghost use Rattle.mx_worker.specs.Work.{IsDone, TallyView};
 
-    ghost Value = { TallyView L (TransferState L) };
+    ghost Value = { TallyView L (ChainState L) };
 
     ghost view = { λ t. record { start = t.start.value; seat = t.seat; did = t.log.did } };
 
     ghost invariant = { λ t. IsDone t.start.value t.seat t.log.did };
 }
 
-impl<'m, L: Link, D: Delivery> Tied for Tally<'m, L, D> {
+impl<'m, 'r, R: Wait, L: Link, D: Delivery> Tied for Tally<'m, 'r, R, L, D> {
     ghost of = { λ t. t.start.of.engine.ties };
 }
 
@@ -55,7 +61,7 @@ impl<'m, L: Link, D: Delivery> Tied for Tally<'m, L, D> {
 fn held_of<L: Link, D: Delivery>(
     claimed: Option<(TiedClaim<Queued<L, D>>, Queued<L, D>)>,
 ) -> Option<Claimed<L, WorkerClaim<L, D>, D>>
-    requires { IfSome claimed (λ r. r.0.origin ≡ request_origin r.1.chain.request) }
+    requires { IfSome claimed (λ r. r.0.origin ≡ request_origin r.1.request) }
     ensures { AreHeld claimed result }
 {
     match claimed {
@@ -80,11 +86,15 @@ fn finished_of<L: Link, D: Delivery>(
     }
 }
 
-impl<'m, L: Link, D: Delivery> Tally<'m, L, D> {
-    pub fn new(seat: Seated<'m, AtWork, Queued<L, D>, Outcome<D>>) -> Tally<'m, L, D>
+impl<'m, 'r, R: Wait, L: Link, D: Delivery> Tally<'m, 'r, R, L, D> {
+    pub fn new(
+        rt: &'r R,
+        seat: Seated<'m, AtWork, Queued<L, D>, Outcome<D>>,
+    ) -> Tally<'m, 'r, R, L, D>
         ensures { result ≡ record { start = seat.entry; seat = seat.entry; did = [] } }
     {
         Tally {
+            rt,
             start: Snapshot::of(&seat),
             seat,
             log: Log::new(),
@@ -99,7 +109,12 @@ impl<'m, L: Link, D: Delivery> Tally<'m, L, D> {
         ensures counted { AreCounted self.entry.did result.recorded result.stale result.given_back }
         ensures refused { result.refused ≡ refused }
     {
-        let Tally { start, seat, log } = self;
+        let Tally {
+            rt: _,
+            start,
+            seat,
+            log,
+        } = self;
         let (recorded, stale, given_back) = log.counts();
         drop(log);
         drop(start);
@@ -113,9 +128,8 @@ impl<'m, L: Link, D: Delivery> Tally<'m, L, D> {
     }
 
     // Hands in an end. One that is refused memory comes back.
-    fn hand_in<R: Wait>(
+    fn hand_in(
         &mut self,
-        rt: &R,
         finished: Finished<WorkerClaim<L, D>, D>,
     ) -> Option<Finished<WorkerClaim<L, D>, D>>
         requires own { finished.of ≡ self.old.start.of.engine.ties }
@@ -124,12 +138,12 @@ impl<'m, L: Link, D: Delivery> Tally<'m, L, D> {
     {
         let end = Snapshot::of(&finished);
         let (right, outcome) = finished.into_parts();
-        let answer = self.seat.finish(rt, right.into_claim(), outcome);
+        let answer = self.seat.finish(self.rt, right.into_claim(), outcome);
         finished_of(self.log.note_end(answer, end))
     }
 
     // Gives a transfer back. One that doesn't go back to the queue is dropped.
-    fn hand_back<R: Wait>(&mut self, rt: &R, held: Claimed<L, WorkerClaim<L, D>, D>)
+    fn hand_back(&mut self, held: Claimed<L, WorkerClaim<L, D>, D>)
         requires own { held.of ≡ self.old.start.of.engine.ties }
         ensures did { (r : Return) × (self.new.did ≡ self.old.did ++ gives_back held.held r ∷ []) }
         ensures same { self.new.start ≡ self.old.start }
@@ -138,24 +152,25 @@ impl<'m, L: Link, D: Delivery> Tally<'m, L, D> {
         let (right, transfer) = held.into_parts();
         let answer = self
             .seat
-            .give_back(rt, right.into_claim(), Queued::of(transfer));
+            .give_back(self.rt, right.into_claim(), Queued::of(transfer));
         self.log.note_return(answer, given);
     }
 }
 
-impl<'m, L: Link, D: Delivery> Engine<L, WorkerClaim<L, D>, D> for Tally<'m, L, D> {
+impl<'m, 'r, R: Wait, L: Link, D: Delivery> Engine<L, WorkerClaim<L, D>, D>
+    for Tally<'m, 'r, R, L, D> {
     type Start = Seated<'m, AtWork, Queued<L, D>, Outcome<D>>;
 
     ghost did = { λ t. t.did };
 
     ghost start = { λ t. t.start };
 
-    fn claim<R: Wait>(&mut self, rt: &R) -> Option<Claimed<L, WorkerClaim<L, D>, D>>
+    fn claim(&mut self) -> Option<Claimed<L, WorkerClaim<L, D>, D>>
         ensures did { self.new.did ≡ self.old.did ++ claims (option_map (λ h. h.held) result) ∷ [] }
         ensures own { IfSome result (λ h. h.of ≡ self.old.start.of.engine.ties) }
         ensures same { (self.new.start.of.engine.ties ≡ self.old.start.of.engine.ties) × (self.new.start ≡ self.old.start) }
     {
-        let held = held_of(self.seat.claim(rt));
+        let held = held_of(self.seat.claim(self.rt));
         self.log.note(Done::claims(&held));
         held
     }
@@ -177,7 +192,7 @@ impl<'m, L: Link, D: Delivery> Engine<L, WorkerClaim<L, D>, D> for Tally<'m, L, 
         self.log.note(Done::notes(right, count));
     }
 
-    fn finish<R: Wait>(&mut self, rt: &R, finished: &mut Option<Finished<WorkerClaim<L, D>, D>>)
+    fn finish(&mut self, finished: &mut Option<Finished<WorkerClaim<L, D>, D>>)
         requires own { IfSome finished.old (λ f. f.of ≡ self.old.start.of.engine.ties) }
         ensures did { IfSome finished.old (λ f. HandsIn self.old.did self.new.did f finished.new) }
         ensures same { (self.new.start.of.engine.ties ≡ self.old.start.of.engine.ties) × (self.new.start ≡ self.old.start) }
@@ -185,12 +200,12 @@ impl<'m, L: Link, D: Delivery> Engine<L, WorkerClaim<L, D>, D> for Tally<'m, L, 
         let Some(end) = finished.take() else {
             return;
         };
-        let handed = self.hand_in(rt, end);
+        let handed = self.hand_in(end);
         // An assignment would write out in this function how an end is dropped: a call takes less to prove.
         drop(mem::replace(finished, handed));
     }
 
-    fn give_back<R: Wait>(&mut self, rt: &R, held: &mut Option<Claimed<L, WorkerClaim<L, D>, D>>)
+    fn give_back(&mut self, held: &mut Option<Claimed<L, WorkerClaim<L, D>, D>>)
         requires own { IfSome held.old (λ h. h.of ≡ self.old.start.of.engine.ties) }
         ensures did { IfSome held.old (λ h. (r : Return) × (self.new.did ≡ self.old.did ++ gives_back h.held r ∷ [])) }
         ensures same { (self.new.start.of.engine.ties ≡ self.old.start.of.engine.ties) × (self.new.start ≡ self.old.start) }
@@ -198,6 +213,6 @@ impl<'m, L: Link, D: Delivery> Engine<L, WorkerClaim<L, D>, D> for Tally<'m, L, 
         let Some(given) = held.take() else {
             return;
         };
-        self.hand_back(rt, given);
+        self.hand_back(given);
     }
 }

@@ -7,10 +7,9 @@ use mx_gate::Gate;
 use mx_link::Link;
 use mx_multi::{AtWork, Seated};
 use mx_sink::{Delivery, Held};
-use mx_transfer::{Outcome, Queued};
+use mx_transfer_core::{Outcome, Queued};
 use mx_worker_turns::run_at;
 use std::alloc::AllocGlobal;
-use std::random::RandomSource;
 use std::sync::Wait;
 
 /// What a worker ends with. The counts stay at the greatest number of 32 bits.
@@ -38,19 +37,17 @@ pub struct WorkerEnd<'m, L: Link, D: Delivery = Held> {
 ///
 /// No clause says that it ends: one that has started and stays paused keeps it. Nor does one say that the queue was empty where it claimed
 /// nothing, why a version couldn't be read, or that a link that might be kept is dropped only where memory is refused.
-pub fn run_worker<
-    'm,
-    L: Link,
-    D: Delivery,
-    R: Wait + RandomSource + AllocGlobal,
-    G: Gate<Link = L>,
->(rt: &R, seat: Seated<'m, AtWork, Queued<L, D>, Outcome<D>>, gate: &mut G) -> WorkerEnd<'m, L, D>
+pub fn run_worker<'m, L: Link, D: Delivery, R: Wait + AllocGlobal, G: Gate<Link = L>>(
+    rt: &R,
+    seat: Seated<'m, AtWork, Queued<L, D>, Outcome<D>>,
+    gate: &mut G,
+) -> WorkerEnd<'m, L, D>
     ensures ran { result.refused ≡ false → WorkerRan L.history L.token_of seat.entry result.seat (G.said gate.old) (G.said gate.new) result.recorded result.stale result.given_back }
     ensures refused { result.refused ≡ true → (result.seat ≡ seat.entry) × (G.said gate.new ≡ G.said gate.old) }
     ensures none { result.refused ≡ true → (result.recorded ≡ 0) × (result.stale ≡ 0) × (result.given_back ≡ 0) }
 {
     let limit = seat.multi().max_connects();
-    match run_at(rt, Tally::new(seat), limit, gate) {
+    match run_at(rt, Tally::new(rt, seat), limit, gate) {
         Ok(tally) => tally.end(false),
         Err(tally) => tally.end(true),
     }

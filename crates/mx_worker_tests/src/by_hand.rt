@@ -2,21 +2,9 @@
 
 use crate::polls::outcome_of;
 use crate::stage::SeatedWorker;
-use crate::trouble::Trouble;
-use futures::task::{Doorbell, Solo};
 use mx_journal::FinishReply;
 use mx_types::Look;
-use std::alloc::AllocGlobal;
-use std::random::RandomSource;
 use std::sync::Wait;
-
-/// A task that polls.
-pub fn new_task<R: RandomSource + AllocGlobal>(rt: &R) -> Result<Solo, Trouble> {
-    match Solo::new(rt, Doorbell::spinning()) {
-        Ok(solo) => Ok(solo),
-        Err(_) => Err(Trouble::NoMemory),
-    }
-}
 
 // Whether an end is recorded. It is generic over claim and end, so that what comes back is dropped as one value.
 fn is_recorded<C: Drop, O: Drop, W: Drop>(answer: Result<FinishReply<C, O>, W>) -> bool {
@@ -25,12 +13,12 @@ fn is_recorded<C: Drop, O: Drop, W: Drop>(answer: Result<FinishReply<C, O>, W>) 
 
 // Claims a transfer, polls it at the moments 0 and 1 as the look at it says, and records its end. It says whether it was paused; None
 // where any of this went otherwise.
-fn end_claimed<R: Wait>(rt: &R, worker: &mut SeatedWorker<'_>, solo: &Solo) -> Option<bool> {
+fn end_claimed<R: Wait>(rt: &R, worker: &mut SeatedWorker<'_>) -> Option<bool> {
     let Some((claim, queued)) = worker.claim(rt) else {
         return None;
     };
     let is_paused = matches!(worker.look(claim.ticket()), Some(Look::Paused));
-    let is_recorded = match outcome_of(solo, queued, is_paused) {
+    let is_recorded = match outcome_of(queued, is_paused) {
         Some(outcome) => is_recorded(worker.finish(rt, claim, outcome)),
         None => {
             drop(claim);
@@ -42,12 +30,12 @@ fn end_claimed<R: Wait>(rt: &R, worker: &mut SeatedWorker<'_>, solo: &Solo) -> O
 
 /// Claims a transfer at the seat, polls it at the moments 0 and 1 as the look at it says, and records its end. It says whether it was
 /// paused; None where any of this went otherwise, or there is no seat.
-pub fn end_at<R: Wait>(rt: &R, worker: Option<SeatedWorker<'_>>, solo: &Solo) -> Option<bool> {
+pub fn end_at<R: Wait>(rt: &R, worker: Option<SeatedWorker<'_>>) -> Option<bool> {
     let Some(worker) = worker else {
         return None;
     };
     let mut worker = worker;
-    let was_paused = end_claimed(rt, &mut worker, solo);
+    let was_paused = end_claimed(rt, &mut worker);
     drop(worker);
     was_paused
 }

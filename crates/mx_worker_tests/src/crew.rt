@@ -12,11 +12,10 @@ use mx_gate::Gate;
 use mx_journal::InfoReply;
 use mx_link::Link;
 use mx_multi::{Application, Multi, Seat, Seated, WorkerSeat};
-use mx_transfer::Outcome;
+use mx_transfer_core::Outcome;
 use mx_types::{HandleId, OutOfMemory};
 use mx_worker::Queued;
 use std::alloc::AllocGlobal;
-use std::random::RandomSource;
 use std::rt::Clock;
 use std::sync::Wait;
 use std::sync::atomic::Ordering;
@@ -167,7 +166,7 @@ fn check_recorded<L: Link, G>(worked: &[Worked<L, G>], plan: &Plan) -> Result<()
 fn serve_slots<
     'm,
     L: Link + Send,
-    R: Threads + Wait + RandomSource + AllocGlobal + Clock + Sync,
+    R: Threads + Wait + AllocGlobal + Clock + Sync,
     G: Gate<Link = L> + Send + Drop,
 >(
     rt: &R,
@@ -201,7 +200,7 @@ fn add_both<L: Link, R: Wait + AllocGlobal>(
 // Adds the URLs, runs a worker for each gate, each in a thread of its own, and reads two messages beside them.
 fn serve_at<
     L: Link + Send,
-    R: Threads + Wait + RandomSource + AllocGlobal + Clock + Sync,
+    R: Threads + Wait + AllocGlobal + Clock + Sync,
     G: Gate<Link = L> + Send + Drop,
 >(
     rt: &R,
@@ -226,7 +225,7 @@ fn serve_at<
 // The same, at a multi handle of its own.
 fn serve_gates<
     L: Link + Send,
-    R: Threads + Wait + RandomSource + AllocGlobal + Clock + Sync,
+    R: Threads + Wait + AllocGlobal + Clock + Sync,
     G: Gate<Link = L> + Send + Drop,
 >(rt: &R, gates: Vec<G>, flags: &Flags, plan: &Plan) -> Result<(), Trouble> {
     let Parts {
@@ -252,7 +251,7 @@ fn two_gates<'a, R: Clock + AllocGlobal>(
 }
 
 // Serves what is planned.
-fn serve<R: Threads + Wait + RandomSource + AllocGlobal + Clock + Sync>(
+fn serve<R: Threads + Wait + AllocGlobal + Clock + Sync>(
     rt: &R,
     plan: &Plan,
 ) -> Result<(), Trouble> {
@@ -263,7 +262,7 @@ fn serve<R: Threads + Wait + RandomSource + AllocGlobal + Clock + Sync>(
 
 /// Serves what is planned, and once more where that was refused memory: then it has to come as if nothing had been refused, and only then
 /// it fails by `AGAIN`. Without a refusal it passes.
-pub fn try_plan<R: Threads + Wait + RandomSource + AllocGlobal + Clock + Sync>(
+pub fn try_plan<R: Threads + Wait + AllocGlobal + Clock + Sync>(
     rt: &R,
     plan: &Plan,
 ) -> Result<(), Fail> {

@@ -10,11 +10,10 @@ use mx_journal::InfoReply;
 use mx_link::{ScriptLink, ScriptRead};
 use mx_multi::{Application, AtWork, Seated};
 use mx_sink::{Outlet, Sink, SinkError};
-use mx_transfer::Outcome;
+use mx_transfer_core::Outcome;
 use mx_types::{Code, HandleId, OutOfMemory};
 use mx_worker::{Queued, run_worker};
 use std::alloc::{AllocGlobal, Global};
-use std::random::RandomSource;
 use std::sync::Wait;
 use std::test::Fail;
 
@@ -271,7 +270,7 @@ fn read_each<R: Wait>(
 }
 
 // Runs a worker, which is to end as the row says. Its seat is dropped.
-fn run<R: Wait + RandomSource + AllocGlobal>(
+fn run<R: Wait + AllocGlobal>(
     rt: &R,
     worker: Seated<'_, AtWork, Work, End>,
     row: &Flowing,
@@ -295,7 +294,7 @@ fn run<R: Wait + RandomSource + AllocGlobal>(
 }
 
 // Plays a row with these seats.
-fn play_seated<'m, R: Wait + RandomSource + AllocGlobal>(
+fn play_seated<'m, R: Wait + AllocGlobal>(
     rt: &R,
     seat: &mut Seated<'m, Application, Work, End>,
     worker: Seated<'m, AtWork, Work, End>,
@@ -310,7 +309,7 @@ fn play_seated<'m, R: Wait + RandomSource + AllocGlobal>(
 }
 
 // Plays a row at the parts of a multi handle.
-fn play_parts<R: Wait + RandomSource + AllocGlobal>(
+fn play_parts<R: Wait + AllocGlobal>(
     rt: &R,
     parts: Parts<Work, End>,
     row: &Flowing,
@@ -336,7 +335,7 @@ fn play_parts<R: Wait + RandomSource + AllocGlobal>(
 }
 
 /// Plays the rows. Fails with the first that goes otherwise, and names it.
-pub fn are_so<R: Wait + RandomSource + AllocGlobal>(rt: &R) -> Result<(), Fail> {
+pub fn are_so<R: Wait + AllocGlobal>(rt: &R) -> Result<(), Fail> {
     for row in &ROWS {
         let parts = open(rt, 4)?;
         match play_parts(rt, parts, row) {

@@ -2,7 +2,7 @@
 
 use crate::trouble::{Trouble, holds};
 use mx_journal::InfoReply;
-use mx_transfer::Outcome;
+use mx_transfer_core::Outcome;
 use mx_types::{Code, HandleId, Ticket};
 
 /// What a message should be.

@@ -3,7 +3,7 @@ ghost use Rattle.std.specs.Prelude.{◌≡◌, All, IfOk};
 
 use mx_link::ScriptLink;
 use mx_multi::{Limits, Multi, OwnedMulti, Seat, WorkerSeat};
-use mx_transfer::Outcome;
+use mx_transfer_core::Outcome;
 use mx_types::{Ending, OutOfMemory, Work};
 use mx_worker::Queued;
 use std::alloc::AllocGlobal;

@@ -9,11 +9,10 @@ use crate::table::SLOW_RUN;
 use crate::trouble::{Trouble, holds};
 use mx_link::ScriptLink;
 use mx_multi::{Multi, Seat, WorkerSeat};
-use mx_transfer::Outcome;
+use mx_transfer_core::Outcome;
 use mx_types::{Call, Code, HandleId, OutOfMemory};
 use mx_worker::Queued;
 use std::alloc::AllocGlobal;
-use std::random::RandomSource;
 use std::sync::Wait;
 use std::test::Fail;
 
@@ -23,7 +22,7 @@ pub const AGAIN: &str = "memory was refused, and the call answered when it was m
 /// How many handles a run has that is taken over.
 const TRANSFERS: usize = 8;
 
-impl<'r, 'm, R: Wait + RandomSource + AllocGlobal> Stage<'r, 'm, R> {
+impl<'r, 'm, R: Wait + AllocGlobal> Stage<'r, 'm, R> {
     // Adds a GET of the URL under each handle from the first to the last, and pauses each if it is to.
     fn add_each(
         &mut self,
@@ -109,7 +108,7 @@ impl<'r, 'm, R: Wait + RandomSource + AllocGlobal> Stage<'r, 'm, R> {
 }
 
 // Plays a row with these seats. It answers whether a call was refused memory, and answered when it was made again.
-fn play_seated<'m, R: Wait + RandomSource + AllocGlobal>(
+fn play_seated<'m, R: Wait + AllocGlobal>(
     rt: &R,
     seat: Caller<'m>,
     first: SeatedWorker<'m>,
@@ -128,7 +127,7 @@ fn play_seated<'m, R: Wait + RandomSource + AllocGlobal>(
 }
 
 // Plays a row at this multi handle.
-fn play_at<R: Wait + RandomSource + AllocGlobal>(
+fn play_at<R: Wait + AllocGlobal>(
     rt: &R,
     multi: &Multi<Queued<ScriptLink>, Outcome>,
     seat: Seat<Queued<ScriptLink>, Outcome>,
@@ -153,7 +152,7 @@ fn play_at<R: Wait + RandomSource + AllocGlobal>(
 }
 
 // Plays a row at the parts of a multi handle.
-fn play_parts<R: Wait + RandomSource + AllocGlobal>(
+fn play_parts<R: Wait + AllocGlobal>(
     rt: &R,
     parts: ScriptParts,
     row: &Scenario,
@@ -175,7 +174,7 @@ fn play_parts<R: Wait + RandomSource + AllocGlobal>(
 }
 
 // Plays a row.
-fn play<R: Wait + RandomSource + AllocGlobal>(
+fn play<R: Wait + AllocGlobal>(
     rt: &R,
     row: &Scenario,
     number: u32,
@@ -195,11 +194,7 @@ fn otherwise<R: AllocGlobal>(rt: &R, row: &Scenario, number: u32, taken: u32) ->
 }
 
 // Plays a row once more that was refused memory. It fails in any case, and reports the result.
-fn play_again<R: Wait + RandomSource + AllocGlobal>(
-    rt: &R,
-    row: &Scenario,
-    number: u32,
-) -> Result<(), Fail> {
+fn play_again<R: Wait + AllocGlobal>(rt: &R, row: &Scenario, number: u32) -> Result<(), Fail> {
     let mut taken = 0;
     match play(rt, row, number, &mut taken) {
         Ok(false) => Err(AGAIN.into()),
@@ -208,11 +203,7 @@ fn play_again<R: Wait + RandomSource + AllocGlobal>(
 }
 
 // Plays a row by this number, and once more where it was refused memory.
-fn try_row<R: Wait + RandomSource + AllocGlobal>(
-    rt: &R,
-    row: &Scenario,
-    number: u32,
-) -> Result<(), Fail> {
+fn try_row<R: Wait + AllocGlobal>(rt: &R, row: &Scenario, number: u32) -> Result<(), Fail> {
     let mut taken = 0;
     match play(rt, row, number, &mut taken) {
         Ok(false) => Ok(()),
@@ -224,10 +215,7 @@ fn try_row<R: Wait + RandomSource + AllocGlobal>(
 
 /// Plays these rows, each as often as it says. One in which a call was refused memory is played once more, and has to come as if nothing
 /// had been refused; only then it fails by `AGAIN`. Without a refusal it passes.
-pub fn try_rows<R: Wait + RandomSource + AllocGlobal>(
-    rt: &R,
-    rows: &[Scenario],
-) -> Result<(), Fail> {
+pub fn try_rows<R: Wait + AllocGlobal>(rt: &R, rows: &[Scenario]) -> Result<(), Fail> {
     for row in rows {
         for number in 0..row.times {
             try_row(rt, row, number)?;

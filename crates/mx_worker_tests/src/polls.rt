@@ -1,52 +1,46 @@
 //! Polls of a transfer by hand, with no worker.
 ghost use Rattle.std.specs.Prelude.{◌≡◌, None, IfSome, IfNone};
 
-use futures::Future;
-use futures::task::{Poll, Solo};
 use mx_link::ScriptLink;
-use mx_transfer::{Outcome, Transfer};
+use mx_transfer_core::{Outcome, Polled, TransferCore};
 use mx_worker::Queued;
 
 /// Polls a transfer once, at this moment, without a link: its outcome, if it ends.
 pub fn poll_at(
-    solo: &Solo,
-    transfer: &mut Transfer<ScriptLink>,
+    transfer: &mut TransferCore<ScriptLink>,
     moment: u64,
     is_paused: bool,
 ) -> Option<Outcome>
-    requires running { transfer.old.chain.code ≡ None }
-    ensures request { IfSome result (λ outcome. outcome.request ≡ transfer.old.chain.request) }
-    ensures again { IfNone result (transfer.new.chain.code ≡ None) }
-    ensures kept { IfNone result (transfer.new.chain.request ≡ transfer.old.chain.request) }
+    requires running { transfer.old.code ≡ None }
+    ensures request { IfSome result (λ outcome. outcome.request ≡ transfer.old.request) }
+    ensures again { IfNone result (transfer.new.code ≡ None) }
+    ensures kept { IfNone result (transfer.new.request ≡ transfer.old.request) }
 {
     transfer.prepare(moment, is_paused);
-    let mut cx = solo.begin();
-    let polled = transfer.poll(&mut cx);
-    let _again: Poll<()> = cx.yield_now();
-    cx.park();
-    match polled {
-        Poll::Ready(ended) => Some(ended),
-        Poll::Pending => None,
+    match transfer.poll() {
+        Polled::Ended(outcome) => Some(outcome),
+        Polled::Waits => None,
+        Polled::Asks => None,
     }
 }
 
 // Polls a transfer at the moments 0 and 1: the outcome, if it ends at the second.
-fn poll_twice(solo: &Solo, transfer: &mut Transfer<ScriptLink>, is_paused: bool) -> Option<Outcome>
-    requires running { transfer.old.chain.code ≡ None }
-    ensures request { IfSome result (λ outcome. outcome.request ≡ transfer.old.chain.request) }
+fn poll_twice(transfer: &mut TransferCore<ScriptLink>, is_paused: bool) -> Option<Outcome>
+    requires running { transfer.old.code ≡ None }
+    ensures request { IfSome result (λ outcome. outcome.request ≡ transfer.old.request) }
 {
-    if poll_at(solo, transfer, 0, is_paused).is_some() {
+    if poll_at(transfer, 0, is_paused).is_some() {
         return None;
     }
-    poll_at(solo, transfer, 1, is_paused)
+    poll_at(transfer, 1, is_paused)
 }
 
 /// The same, of a transfer that was claimed.
-pub fn outcome_of(solo: &Solo, queued: Queued<ScriptLink>, is_paused: bool) -> Option<Outcome>
-    ensures request { IfSome result (λ outcome. outcome.request ≡ queued.chain.request) }
+pub fn outcome_of(queued: Queued<ScriptLink>, is_paused: bool) -> Option<Outcome>
+    ensures request { IfSome result (λ outcome. outcome.request ≡ queued.request) }
 {
     let mut transfer = queued.into_transfer();
-    match poll_twice(solo, &mut transfer, is_paused) {
+    match poll_twice(&mut transfer, is_paused) {
         Some(outcome) => Some(outcome),
         None => None,
     }

@@ -1,9 +1,9 @@
 //! The rows that are played without a refusal alone.
 
-use crate::flowing;
 use crate::links::{LINKS, WAITING};
 use crate::play::try_rows;
 use crate::table::{BY_HAND, ENDING};
+use crate::{flowing, solo};
 use std::test::Fail;
 
 #[test]

@@ -1,19 +1,17 @@
 //! What a worker's run needs: its request, its start, what it ended with.
 ghost use Rattle.std.specs.Prelude.{◌≡◌};
 
-use crate::stage::SeatedWorker;
 use crate::steps::Answer;
 use crate::trouble::{Trouble, holds};
 use mx_gate::Gate;
 use mx_journal::AddReply;
 use mx_link::{Link, ScriptLink};
+use mx_multi::{AtWork, Seated};
 use mx_request::{Request, RequestError};
+use mx_transfer_core::Outcome;
 use mx_types::{Method, Reply, Settings, State};
 use mx_worker::{Queued, run_worker};
-use std::alloc::{Alloc, AllocGlobal, Global};
-use std::io;
-use std::io::ErrorKind;
-use std::random::RandomSource;
+use std::alloc::{AllocGlobal, Global};
 use std::sync::Wait;
 
 /// A GET of the URL, which has so many milliseconds, or no deadline where these are 0, and follows so many redirects at most.
@@ -85,41 +83,6 @@ pub fn compare_reply(reply: &Reply, answer: Answer) -> Result<(), Trouble> {
     holds(is_answer(reply, answer))
 }
 
-/// A runtime that has no random bytes, so that no worker can make its task.
-#[derive(Drop)]
-pub struct Unlucky<'a, R> {
-    rt: &'a R,
-}
-
-impl<'a, R: Wait> Wait for Unlucky<'a, R> {}
-
-impl<'a, R: AllocGlobal> Alloc for Unlucky<'a, R> {
-    type A = Global;
-
-    fn alloc(&self) -> Global {
-        self.rt.alloc()
-    }
-}
-
-impl<'a, R> RandomSource for Unlucky<'a, R> {
-    fn fill_bytes(&self, _buf: &mut [u8]) -> io::Result<()> {
-        Err(ErrorKind::Unsupported.into())
-    }
-}
-
-/// Starts a worker that is refused. It is to have done nothing; its seat comes back.
-pub fn refuse<'m, R: Wait + RandomSource + AllocGlobal, G: Gate<Link = ScriptLink>>(
-    rt: &R,
-    worker: SeatedWorker<'m>,
-    gate: &mut G,
-) -> Result<SeatedWorker<'m>, Trouble> {
-    let end = run_worker(&Unlucky { rt }, worker, gate);
-    if end.refused && (end.recorded, end.stale, end.given_back) == (0, 0, 0) {
-        return Ok(end.seat);
-    }
-    Err(Trouble::Wrong)
-}
-
 /// What a worker ended with.
 #[derive(Clone, Copy)]
 pub struct Ran {
@@ -130,10 +93,10 @@ pub struct Ran {
     pub is_second: bool,
 }
 
-/// Runs a worker, once more where memory for its start was refused.
-pub fn work<R: Wait + RandomSource + AllocGlobal, G: Gate<Link = ScriptLink>>(
+/// Runs a worker, once more where memory for its start was refused. One that was refused is to have done nothing.
+pub fn work<L: Link, R: Wait + AllocGlobal, G: Gate<Link = L>>(
     rt: &R,
-    worker: SeatedWorker<'_>,
+    worker: Seated<'_, AtWork, Queued<L>, Outcome>,
     gate: &mut G,
 ) -> Result<Ran, Trouble> {
     let mut worker = worker;
@@ -146,6 +109,9 @@ pub fn work<R: Wait + RandomSource + AllocGlobal, G: Gate<Link = ScriptLink>>(
                 given_back: end.given_back,
                 is_second,
             });
+        }
+        if end.recorded != 0 || end.stale != 0 || end.given_back != 0 {
+            return Err(Trouble::Wrong);
         }
         worker = end.seat;
     }

@@ -3,7 +3,7 @@ ghost use Rattle.std.specs.Prelude.{◌≡◌, ◌≤◌, true, [], ◌∷◌, �
 ghost use Rattle.mx_types.specs.Code.{is_link_code};
 ghost use Rattle.mx_gate.specs.Said.{told, asked, opened, lacked, waited, numbered, is_stop};
 
-use crate::by_hand::{end_at, new_task};
+use crate::by_hand::end_at;
 use crate::gates::gate_of;
 use crate::messages::{Wanted, compare, handle_of};
 use crate::runs;
@@ -15,11 +15,10 @@ use mx_journal::InfoReply;
 use mx_link::ScriptLink;
 use mx_multi::{Application, AtWork, Progress, Seated};
 use mx_request::Endpoint;
-use mx_transfer::Outcome;
+use mx_transfer_core::Outcome;
 use mx_types::{Call, Code, HandleId};
 use mx_worker::Queued;
 use std::alloc::AllocGlobal;
-use std::random::RandomSource;
 use std::sync::Wait;
 
 /// The seat of an application, at its multi handle.
@@ -105,7 +104,7 @@ impl<'r, 'm, R: Wait> Gate for Stage<'r, 'm, R> {
     }
 }
 
-impl<'r, 'm, R: Wait + RandomSource + AllocGlobal> Stage<'r, 'm, R> {
+impl<'r, 'm, R: Wait + AllocGlobal> Stage<'r, 'm, R> {
     /// A stage with these seats, of which the workers' are taken from the last one on.
     pub fn new(rt: &'r R, seat: Caller<'m>, workers: Vec<SeatedWorker<'m>>) -> Stage<'r, 'm, R> {
         let alloc = rt.alloc();
@@ -150,21 +149,12 @@ impl<'r, 'm, R: Wait + RandomSource + AllocGlobal> Stage<'r, 'm, R> {
         Ok(())
     }
 
-    // The next worker's seat, whose start was refused first where the run says so.
-    fn next_worker(&mut self, is_refused_once: bool) -> Result<SeatedWorker<'m>, Trouble> {
-        let Some(worker) = self.workers.pop() else {
-            return Err(Trouble::Wrong);
-        };
-        if is_refused_once {
-            return runs::refuse(self.rt, worker, self);
-        }
-        Ok(worker)
-    }
-
     /// Runs a worker, and says what it ended with.
     pub fn work(&mut self, run: &Run) -> Result<Ran, Trouble> {
         self.plan(run)?;
-        let worker = self.next_worker(run.is_refused_once)?;
+        let Some(worker) = self.workers.pop() else {
+            return Err(Trouble::Wrong);
+        };
         let ran = runs::work(self.rt, worker, self)?;
         self.has_lacked = self.has_lacked || ran.is_second;
         Ok(ran)
@@ -172,9 +162,7 @@ impl<'r, 'm, R: Wait + RandomSource + AllocGlobal> Stage<'r, 'm, R> {
 
     /// Claims a transfer at a worker's seat, polls it at the moments 0 and 1, and records its end; the look at it has to give this.
     pub fn end_by_hand(&mut self, is_paused: bool) -> Result<(), Trouble> {
-        let solo = new_task(self.rt)?;
-        let was_paused = end_at(self.rt, self.workers.pop(), &solo);
-        drop(solo);
+        let was_paused = end_at(self.rt, self.workers.pop());
         holds(was_paused == Some(is_paused))
     }
 

@@ -35,8 +35,6 @@ pub enum Meanwhile {
 /// A worker's run over a gate of its own, on a seat that no worker had before.
 #[derive(Clone, Copy)]
 pub struct Run {
-    /// Whether its start is refused at first, and it starts at its seat again.
-    pub is_refused_once: bool,
     /// How many turns of the gate answer `Continue`.
     pub turns: u32,
     /// What the gate answers where it is to open a link.
@@ -63,7 +61,6 @@ pub struct Run {
 
 /// A worker with nothing to do, which is stopped at once.
 pub const RUN: Run = Run {
-    is_refused_once: false,
     turns: 0,
     links: &[],
     delays: 0,

@@ -330,7 +330,8 @@ pub static ENDING: [Scenario; 10] = [
             Step::Look(2, 1, 43),
         ],
     },
-    // A worker whose start is refused says so, claims nothing, and gives its seat back as it was: another serves there what was added.
+    // A worker whose start is refused says so, claims nothing, and gives its seat back as it was: then it starts there, and serves what was
+    // added. checks/refused-growths.sh refuses each start.
     Scenario {
         name: "a refused start leaves the seat as it was",
         keeps: 4,
@@ -338,7 +339,6 @@ pub static ENDING: [Scenario; 10] = [
         steps: &[
             Step::Add(1, "http://a.example/", 0),
             Step::Run(Run {
-                is_refused_once: true,
                 turns: 1,
                 links: &[AT_ONCE],
                 recorded: 1,

@@ -2,7 +2,7 @@
 use Rattle.std.proofs.Common.{◌≡◌, ◌∙◌, inl, inr, List, [], ◌∷◌, ◌++◌, refl, sym, ap, subst, Some, None}
 use Rattle.mx_turn.specs.Workers.{Finish, recorded, stale, lacking, unseated, Deed, finishes, Worker}
 use Rattle.mx_turn.specs.Turn.{handed_in}
-use Rattle.mx_worker_turns.specs.WorkerSteps.{EndView, HandsIn}
+use Rattle.mx_turn.specs.Engines.{EndView, HandsIn}
 
 -- what comes back is the end that was handed in, for which memory was refused
 pub came_back : {L : Type 0} (was is : List (Deed L)) (e back : EndView) (h : HandsIn was is e (Some back)) → (h.f ≡ lacking) × (back ≡ e)

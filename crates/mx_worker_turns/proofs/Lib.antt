@@ -1,6 +1,5 @@
 pub mod Queues
 mod Handing
-mod Polling
 mod Looking
 mod Waiting
 mod Passing

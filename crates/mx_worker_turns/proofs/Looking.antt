@@ -11,7 +11,7 @@ use Rattle.mx_chain.specs.Chains.{ChainState, received_of}
 use Rattle.mx_chain.specs.Outcomes.{OutcomeValue}
 use Rattle.mx_chain.specs.Steps.{waits}
 use Rattle.mx_gate.specs.Said.{Said}
-use Rattle.mx_transfer.specs.Deliveries.{MakesRoom}
+use Rattle.mx_transfer_core.specs.Deliveries.{MakesRoom}
 use Rattle.mx_turn.specs.Supplies.{Supplies}
 use Rattle.mx_turn.specs.Workers.{Held, Worker, does, holds, Finish, recorded, stale, lacking, unseated, Return, Deed, looks, notes, gives_back}
 use Rattle.mx_turn.specs.Turn.{handed_in, is_delayed, prepared, unlinked, Keeps, Readies, Settles, Supplied, LooksAt, lets_go, serves, is_go}

@@ -12,7 +12,8 @@ use Rattle.mx_turn.specs.Turn.{Each, Retries, GivesBack, LooksAt, IsLate, GoesTh
 use Rattle.mx_turn.proofs.Within.{retries_step, gives_step, looks_step}
 use Rattle.mx_gate.specs.Said.{Said, told}
 use Rattle.mx_exchange.specs.Exchanges.{IsDue}
-use Rattle.mx_worker_turns.specs.WorkerSteps.{HeldView, beside}
+use Rattle.mx_turn.specs.Engines.{HeldView}
+use Rattle.mx_worker_turns.specs.WorkerSteps.{beside}
 use Rattle.mx_worker_turns.specs.Picks.{Bounds, IsBounded, NoneIsLate, IsOneDue, TakesDue, Picks, due_now, due_then, first_now, first_then}
 
 pub none_left : {X : Type 0} (xs : List X) → length xs ≡ 0 → xs ≡ []

@@ -9,12 +9,15 @@ use Rattle.mx_exchange.specs.Turns.{Turns, Exchanged, Probed, refused, turned, u
 use Rattle.mx_chain.specs.Chains.{ChainState}
 use Rattle.mx_chain.specs.Steps.{How, waits, asks, ends, Steps, waited, ended}
 use Rattle.mx_gate.specs.Said.{Said}
-use Rattle.mx_transfer.specs.Deliveries.{MakesRoom, takes, has_none, has_failed}
-use Rattle.mx_transfer.specs.Transfers.{Delivers}
+use Rattle.mx_transfer_core.specs.Deliveries.{MakesRoom, takes, has_none, has_failed}
+use Rattle.mx_transfer_core.specs.Cores.{Delivers, IsPolled, how_of}
+use Rattle.mx_transfer_core.specs.declared.polled.Polled.{Polled}
+use Rattle.mx_transfer_core.specs.declared.polled.Polled.TheVariants as polled
 use Rattle.mx_turn.specs.Idle.{Idle}
 use Rattle.mx_turn.specs.Workers.{Held, Worker, holds}
 use Rattle.mx_turn.specs.Turn.{Readies, Supplied, prepared, unwanted, reuses, delays, opens, fails, reopens, gives_up, puts_off}
-use Rattle.mx_worker_turns.specs.WorkerSteps.{AwaitsLink, HasWaited, IsNoted, IsPolled, IsReadied, Polls, Serves, beside}
+use Rattle.mx_turn.specs.Engines.{HasWaited}
+use Rattle.mx_worker_turns.specs.WorkerSteps.{AwaitsLink, IfWaits, IsNoted, IsReadied, Polls, Serves, beside}
 use Rattle.mx_worker_turns.proofs.Looking.{settles_on}
 
 module _ {L : Type 0} (history : L → List Answer) where
@@ -43,6 +46,12 @@ module _ {L : Type 0} (history : L → List Answer) where
   -- a poll that waits
   pub has_waited_so : (t new : ChainState L) → IsPolled history t new waits → HasWaited new.now
   has_waited_so t new p = polled_so t new p.went p.steps p.delivers
+
+  -- the same, by what the poll came to
+  pub if_waits : {D : Type 0} (t new : ChainState L) (p : Polled D) → IsPolled history t new (how_of p) → IfWaits p (HasWaited new.now)
+  if_waits t new polled.Waits is = has_waited_so t new is
+  if_waits t new polled.Asks is = tt
+  if_waits t new (polled.Ended o) is = tt
 
   clocked_already : (t : ExchangeState L) → t.is_polled ≡ true → clocked t ≡ t
   clocked_already t polled = λ i. record t {

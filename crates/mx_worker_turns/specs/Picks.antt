@@ -2,7 +2,7 @@
 use Rattle.std.specs.Prelude.{◌≡◌, ℕ, ◌≤◌, Bool, true, false, List, ◌∷◌, ◌++◌, [], All, Option, Some, None, MatchOption}
 use Rattle.mx_gate.specs.Said.{Said, told}
 use Rattle.mx_turn.specs.Turn.{IsLate}
-use Rattle.mx_worker_turns.specs.WorkerSteps.{HeldView}
+use Rattle.mx_turn.specs.Engines.{HeldView}
 
 -- a deadline that isn't before this bound, if there is one
 abbrev pub Bounds : Option ℕ → Option ℕ → Type 0

@@ -1,28 +1,19 @@
 -- What the functions of a worker promise one another.
-use Rattle.std.specs.Prelude.{◌≡◌, ◌⊎◌, ℕ, ◌+◌, ◌&&◌, Bool, true, false, List, ◌∷◌, ◌++◌, [], length, Option, Some, None}
+use Rattle.std.specs.Prelude.{◌≡◌, ℕ, ◌+◌, ◌&&◌, Bool, false, List, ◌∷◌, ◌++◌, [], length}
 use Rattle.logbook.specs.Pages.{Book}
 use Rattle.mx_link.specs.declared.answers.Answer.{Answer}
 use Rattle.mx_turn.specs.Idle.{Idle}
 use Rattle.mx_chain.specs.Chains.{ChainState, received_of}
 use Rattle.mx_exchange.specs.Exchanges.{ExchangeState, WantsLink, IsDue}
-use Rattle.mx_chain.specs.Steps.{How, Steps}
-use Rattle.mx_transfer.specs.Deliveries.{MakesRoom}
-use Rattle.mx_transfer.specs.Transfers.{Delivers}
-use Rattle.mx_transfer.specs.declared.polled.Polled.{Polled}
-use Rattle.mx_transfer.specs.declared.polled.Polled.TheVariants as polled
+use Rattle.mx_chain.specs.Steps.{How}
+use Rattle.mx_transfer_core.specs.Cores.{IsPolled}
+use Rattle.mx_transfer_core.specs.Deliveries.{MakesRoom}
+use Rattle.mx_transfer_core.specs.declared.polled.Polled.{Polled}
+use Rattle.mx_transfer_core.specs.declared.polled.Polled.TheVariants as polled
 use Rattle.mx_gate.specs.Said.{Said, lacked}
-use Rattle.mx_turn.specs.Workers.{Held, SetAside, Finish, recorded, stale, lacking, unseated, Deed, notes, finishes, Worker, starts, IsOver}
+use Rattle.mx_turn.specs.Workers.{Held, SetAside, Deed, notes, Worker, starts, IsOver}
+use Rattle.mx_turn.specs.Engines.{HasWaited}
 use Rattle.mx_turn.specs.Turn.{Keeps, Readies, Settles, Runs, is_delayed, prepared, relieved, unlinked}
-
--- a claimed transfer, and which list of ties has the tie of its claim's addition
-pub record HeldView (L : Type 0) : Type 0 where
-  pub held : Held L
-  pub of : Book
-
--- an end that is to be handed in, and likewise
-pub record EndView : Type 0 where
-  pub end : SetAside
-  pub of : Book
 
 -- items in order, and of which list of ties they are
 pub record QueueView (T : Type 0) : Type 0 where
@@ -49,13 +40,6 @@ pub record WorkerView (L S : Type 0) : Type 0 where
 abbrev pub beside : {L : Type 0} → Worker L → List Said → Worker L
 beside w said = record w { said = said }
 
--- an end was handed in: it comes back where memory was refused, and only there
-pub record HandsIn {L : Type 0} (was is : List (Deed L)) (e : EndView) (back : Option EndView) : Type 0 where
-  pub f : Finish
-  pub did : is ≡ was ++ finishes e.end.ticket e.end.outcome f ∷ []
-  pub comes_back : f ≡ lacking → back ≡ Some e
-  pub is_taken : ((f ≡ recorded) ⊎ (f ≡ stale)) ⊎ (f ≡ unseated) → back ≡ None
-
 -- its gate was asked whether too many files are open: then the idle links were dropped
 pub record Relieves {L : Type 0} (w v : Worker L) (was is : List Said) : Type 0 where
   pub lacks : Bool
@@ -70,12 +54,6 @@ pub record IsReadied {L : Type 0} (history : L → List Answer) (token_of : L �
   pub delays : delayed ≡ is_delayed said
   pub after : v ≡ record w { idle = idle; said = w.said ++ said }
 
--- one poll of a transfer: the turn of its chain, and what its delivery makes of an end
-pub record IsPolled {L : Type 0} (history : L → List Answer) (t new : ChainState L) (how : How) : Type 0 where
-  pub went : How
-  pub steps : Steps history t new went
-  pub delivers : Delivers went how
-
 -- the count of a transfer's bytes is noted, and the link that a hop left is kept
 pub record IsNoted {L : Type 0} (h : Held L) (left : ChainState L) (w v : Worker L) : Type 0 where
   pub idle : Idle L
@@ -88,10 +66,6 @@ pub record Polls {L : Type 0} (history : L → List Answer) (h : Held L) (left :
   pub new : ChainState L
   pub polled : IsPolled history h.transfer new how
   pub noted : IsNoted (record h { transfer = new }) left w v
-
--- what the last poll of a transfer that waits has left: its clock runs, and it has no link that needs a probe
-abbrev pub HasWaited : {L : Type 0} → ExchangeState L → Type 0
-HasWaited t = (t.is_polled ≡ true) × (t.needs_probe ≡ false)
 
 -- a poll would change nothing: it waits for a link still, isn't paused, and its deadline has not come
 pub record AwaitsLink {L : Type 0} (t : ExchangeState L) : Type 0 where

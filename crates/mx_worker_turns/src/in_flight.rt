@@ -3,10 +3,10 @@ ghost use Rattle.std.specs.Prelude.{◌≡◌, ◌<◌, ◌≤◌, ◌↔◌, �
 ghost use Rattle.mx_types.specs.Limits.{most_transfers};
 ghost use Rattle.mx_worker_turns.specs.WorkerSteps.{in_flight_count};
 
-use crate::engine::{Claimed, Finished, Right, Tied};
 use crate::queue::Queue;
 use mx_link::Link;
 use mx_sink::Delivery;
+use mx_turn::{Claimed, Finished, Right, Tied};
 use mx_types::{MOST_TRANSFERS, OutOfMemory};
 use std::alloc::Global;
 use std::marker::Model;

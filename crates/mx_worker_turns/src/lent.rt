@@ -4,7 +4,7 @@ ghost use Rattle.std.specs.Prelude.{◌≡◌};
 use mx_chain::ReadBuffer;
 use mx_link::Link;
 use mx_sink::{Delivery, Window};
-use mx_transfer::Transfer;
+use mx_transfer_core::TransferCore;
 use std::alloc::Global;
 use std::marker::Model;
 
@@ -35,7 +35,7 @@ impl Lent {
     }
 
     /// Gives them to a transfer before a poll, and takes them back after it.
-    pub fn swap<L: Link, D: Delivery>(&mut self, transfer: &mut Transfer<L, D>)
+    pub fn swap<L: Link, D: Delivery>(&mut self, transfer: &mut TransferCore<L, D>)
         ensures { transfer.new ≡ transfer.old }
     {
         transfer.swap_buffer(&mut self.buffer);

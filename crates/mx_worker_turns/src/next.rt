@@ -3,11 +3,11 @@ ghost use Rattle.std.specs.Prelude.{◌≡◌, ℕ, Option, ◌+◌, ◌<◌, �
 ghost use Rattle.mx_exchange.specs.Exchanges.{IsDue};
 ghost use Rattle.mx_worker_turns.specs.Picks.{Bounds, IsBounded, TakesDue, Picks, PicksDue};
 
-use crate::engine::{Claimed, Right, Tied};
 use crate::queue::Queue;
 use mx_gate::Gate;
 use mx_link::Link;
 use mx_sink::Delivery;
+use mx_turn::{Claimed, Right, Tied};
 
 /// Whether the deadline has come.
 pub(crate) fn is_due(deadline: Option<u64>, now: u64) -> bool

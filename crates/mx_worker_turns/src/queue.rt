@@ -3,7 +3,7 @@ ghost use Rattle.std.specs.Prelude.{◌≡◌, ◌<◌, ◌∷◌, ◌++◌, [],
 ghost use Rattle.std.specs.List.{remove};
 ghost use Rattle.mx_types.specs.Limits.{most_transfers};
 
-use crate::engine::Tied;
+use mx_turn::Tied;
 use mx_types::{MOST_TRANSFERS, OutOfMemory};
 use std::alloc::Global;
 use std::collections::VecDeque;

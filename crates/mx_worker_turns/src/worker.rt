@@ -1,22 +1,20 @@
 //! A worker.
-ghost use Rattle.std.specs.Prelude.{◌≡◌, ◌↔◌, [], IsTrue, MatchResult, IfSome};
+ghost use Rattle.std.specs.Prelude.{◌≡◌, ◌↔◌, [], IsTrue, MatchResult, IfSome, All};
 ghost use Rattle.mx_turn.specs.Workers.{IsOver, starts};
 ghost use Rattle.mx_turn.specs.Turn.{WorkerTurn, Runs};
+ghost use Rattle.mx_worker_turns.specs.Picks.{Bounds};
 ghost use Rattle.mx_worker_turns.specs.WorkerSteps.{beside};
 
-use crate::engine::{Claimed, Engine, Finished, Right};
 use crate::in_flight::InFlight;
 use crate::lent::Lent;
 use crate::queue::Queue;
 use crate::worker_core::WorkerCore;
-use futures::task::{Doorbell, Solo};
 use mx_gate::Gate;
 use mx_link::Link;
 use mx_sink::Delivery;
-use mx_turn::Links;
-use std::alloc::AllocGlobal;
+use mx_turn::{Claimed, Engine, Finished, Links, Right};
+use std::alloc::Global;
 use std::marker::Model;
-use std::random::RandomSource;
 use std::sync::Wait;
 
 /// A worker, at an engine. Contracts see what it has in flight, its idle links and what it did at the engine, of which list of ties its
@@ -54,21 +52,20 @@ struct Queues<L: Link, C: Right, D: Delivery, E: Engine<L, C, D>> {
 struct Tools<L: Link, C: Right, D: Delivery, E: Engine<L, C, D>> {
     queues: Queues<L, C, D, E>,
     links: Links<L>,
-    solo: Solo,
 }
 
-fn make_queues<L: Link, C: Right, D: Delivery, E: Engine<L, C, D>, R: AllocGlobal>(
-    rt: &R,
+fn make_queues<L: Link, C: Right, D: Delivery, E: Engine<L, C, D>>(
+    alloc: Global,
     engine: &E,
 ) -> Option<Queues<L, C, D, E>>
     ensures in_flight { IfSome result (λ q. q.in_flight ≡ record { held = []; set_aside = []; of = E.of engine.now }) }
     ensures held { IfSome result (λ q. q.spare_held ≡ record { items = []; of = E.of engine.now }) }
     ensures ends { IfSome result (λ q. q.spare_ends ≡ record { items = []; of = E.of engine.now }) }
 {
-    let Ok(in_flight) = InFlight::new(rt.alloc(), engine) else {
+    let Ok(in_flight) = InFlight::new(alloc, engine) else {
         return None;
     };
-    let Ok((spare_held, spare_ends)) = Queue::pair(rt.alloc(), engine) else {
+    let Ok((spare_held, spare_ends)) = Queue::pair(alloc, engine) else {
         drop(in_flight);
         return None;
     };
@@ -79,21 +76,8 @@ fn make_queues<L: Link, C: Right, D: Delivery, E: Engine<L, C, D>, R: AllocGloba
     })
 }
 
-fn make_links<L: Link, R: RandomSource + AllocGlobal>(rt: &R, limit: u8) -> Option<(Links<L>, Solo)>
-    ensures { IfSome result (λ r. r.0 ≡ record { links = []; limit = limit }) }
-{
-    let Ok(links) = Links::new(rt.alloc(), limit) else {
-        return None;
-    };
-    let Ok(solo) = Solo::new(rt, Doorbell::spinning()) else {
-        drop(links);
-        return None;
-    };
-    Some((links, solo))
-}
-
-fn make_tools<L: Link, C: Right, D: Delivery, E: Engine<L, C, D>, R: RandomSource + AllocGlobal>(
-    rt: &R,
+fn make_tools<L: Link, C: Right, D: Delivery, E: Engine<L, C, D>>(
+    alloc: Global,
     engine: &E,
     limit: u8,
 ) -> Option<Tools<L, C, D, E>>
@@ -102,44 +86,32 @@ fn make_tools<L: Link, C: Right, D: Delivery, E: Engine<L, C, D>, R: RandomSourc
     ensures held { IfSome result (λ t. t.queues.spare_held ≡ record { items = []; of = E.of engine.now }) }
     ensures ends { IfSome result (λ t. t.queues.spare_ends ≡ record { items = []; of = E.of engine.now }) }
 {
-    let Some(queues) = make_queues(rt, engine) else {
+    let Some(queues) = make_queues(alloc, engine) else {
         return None;
     };
-    let Some((links, solo)) = make_links(rt, limit) else {
+    let Ok(links) = Links::new(alloc, limit) else {
         drop(queues);
         return None;
     };
-    Some(Tools {
-        queues,
-        links,
-        solo,
-    })
+    Some(Tools { queues, links })
 }
 
 impl<L: Link, C: Right, D: Delivery, E: Engine<L, C, D>> Worker<L, C, D, E> {
     /// A worker with nothing in flight, and with room for so many idle links. Where memory is refused, the engine comes back.
-    pub fn new<R: RandomSource + AllocGlobal>(
-        rt: &R,
-        engine: E,
-        limit: u8,
-    ) -> Result<Worker<L, C, D, E>, E>
+    pub fn new(alloc: Global, engine: E, limit: u8) -> Result<Worker<L, C, D, E>, E>
         ensures { MatchResult result (λ w. w ≡ record { worker = record (starts limit) { did = E.did engine }; of = E.of engine; start = E.start engine }) (λ back. back ≡ engine) }
     {
-        let Some(tools) = make_tools(rt, &engine, limit) else {
+        let Some(tools) = make_tools(alloc, &engine, limit) else {
             return Err(engine);
         };
-        let Tools {
-            queues,
-            links,
-            solo,
-        } = tools;
+        let Tools { queues, links } = tools;
         let Queues {
             in_flight,
             spare_held,
             spare_ends,
         } = queues;
         Ok(Worker {
-            core: WorkerCore::new(engine, in_flight, links, solo, Lent::new(rt.alloc())),
+            core: WorkerCore::new(engine, in_flight, links, Lent::new(alloc)),
             spare_held,
             spare_ends,
         })
@@ -159,6 +131,30 @@ impl<L: Link, C: Right, D: Delivery, E: Engine<L, C, D>> Worker<L, C, D, E> {
         core.into_engine()
     }
 
+    /// Gives its engine, and takes this one in its place, which is of the same list of ties.
+    pub fn swap_engine(&mut self, engine: &mut E)
+        requires of { E.of engine.old ≡ self.old.of }
+        ensures taken { self.new ≡ record self.old { worker = record self.old.worker { did = E.did engine.old }; start = E.start engine.old } }
+        ensures given { (E.did engine.new ≡ self.old.worker.did) × (E.start engine.new ≡ self.old.start) }
+        ensures same { E.of engine.new ≡ E.of engine.old }
+    {
+        self.core.swap_engine(engine);
+    }
+
+    /// Whether something could go on at once after its last turn.
+    pub fn can_go_on(&self) -> bool
+        ensures { result ≡ self.now.worker.can_go_on }
+    {
+        self.core.can_go_on()
+    }
+
+    /// A deadline before which none of its transfers' comes, where one of them has one.
+    pub fn least_deadline(&self) -> Option<u64>
+        ensures { All (λ h. Bounds result h.transfer.now.deadline) self.now.worker.held }
+    {
+        self.core.least_deadline()
+    }
+
     /// Whether it was told to stop, and has nothing in flight.
     pub fn is_over(&self) -> bool
         ensures { IsTrue result ↔ IsOver self.now.worker }
@@ -168,12 +164,12 @@ impl<L: Link, C: Right, D: Delivery, E: Engine<L, C, D>> Worker<L, C, D, E> {
 
     /// One turn: it claims, tries the ends again that were refused memory, goes through its transfers, waits at the gate, and gives back
     /// what has not started once it is told to stop.
-    pub fn turn<R: Wait, G: Gate<Link = L>>(&mut self, rt: &R, gate: &mut G)
+    pub fn turn<G: Gate<Link = L>>(&mut self, gate: &mut G)
         ensures turn { WorkerTurn L.history L.token_of (beside self.old.worker (G.said gate.old)) (beside self.new.worker (G.said gate.new)) }
         ensures same { self.new ≡ record self.old { worker = self.new.worker } }
     {
         self.core
-            .turn(rt, gate, &mut self.spare_held, &mut self.spare_ends);
+            .turn(gate, &mut self.spare_held, &mut self.spare_ends);
     }
 
     /// Turn after turn, until it was told to stop and has nothing in flight.
@@ -186,7 +182,7 @@ impl<L: Link, C: Right, D: Delivery, E: Engine<L, C, D>> Worker<L, C, D, E> {
             if self.is_over() {
                 return;
             }
-            self.turn(rt, gate);
+            self.turn(gate);
         }
         unreachable!()
     }

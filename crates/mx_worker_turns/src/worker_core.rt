@@ -1,30 +1,29 @@
 //! A worker's core: what it holds, and what it does with it.
-ghost use Rattle.std.specs.Prelude.{◌≡◌, ◌<◌, ◌≤◌, ◌+◌, ◌↔◌, ◌||◌, ◌&&◌, not, length, map, List, [], None, Some, true, false, IsTrue, fold, min};
+ghost use Rattle.std.specs.Prelude.{◌≡◌, ◌<◌, ◌≤◌, ◌+◌, ◌↔◌, ◌||◌, ◌&&◌, not, length, map, List, [], None, Some, true, false, IsTrue, fold, min, All};
 ghost use Rattle.mx_types.specs.Limits.{most_transfers};
 ghost use Rattle.mx_types.specs.declared.reply.Look.TheVariants as look;
 ghost use Rattle.mx_request.specs.Request.{request_origin};
 ghost use Rattle.mx_exchange.specs.Exchanges.{WantsLink, IsDue};
-ghost use Rattle.mx_transfer.specs.Transfers.{IfEnded, IfGoing, how_of};
+ghost use Rattle.mx_transfer_core.specs.Cores.{IfEnded, IfGoing, IsPolled, how_of};
 ghost use Rattle.mx_gate.specs.Said.{Said, is_stop};
 ghost use Rattle.mx_turn.specs.Workers.{Return, gives_back, in_hand, does, holds, IsOver};
 ghost use Rattle.mx_turn.specs.Turn.{Each, Claims, Retries, LooksAt, GivesBack, GoesThrough, Stops, WorkerTurn, is_go, longest_wait, prepared, time_left, wait_of};
-ghost use Rattle.mx_worker_turns.specs.WorkerSteps.{Advances, AwaitsLink, HandsIn, HasWaited, IfWaits, IsNoted, IsPolled, IsReadied, Polls, Relieves, Serves, beside};
+ghost use Rattle.mx_turn.specs.Engines.{HandsIn, HasWaited};
+ghost use Rattle.mx_worker_turns.specs.Picks.{Bounds};
+ghost use Rattle.mx_worker_turns.specs.WorkerSteps.{Advances, AwaitsLink, IfWaits, IsNoted, IsReadied, Polls, Relieves, Serves, beside};
 
-use crate::engine::{Claimed, Engine, Finished, LONGEST_WAIT, Right, Tied};
 use crate::in_flight::InFlight;
 use crate::lent::Lent;
 use crate::next::{is_due, least_deadline, take_next};
 use crate::queue::Queue;
-use futures::Future;
-use futures::task::{Poll, Solo};
 use mx_gate::{Gate, Turn};
 use mx_link::Link;
 use mx_sink::Delivery;
-use mx_transfer::{Polled, Transfer};
-use mx_turn::Links;
+use mx_transfer_core::{Polled, TransferCore};
+use mx_turn::{Claimed, Engine, Finished, LONGEST_WAIT, Links, Right, Tied};
 use mx_types::Look;
 use std::marker::Model;
-use std::sync::Wait;
+use std::mem;
 
 /// A worker without its spare queues. Contracts see the worker, of which list of ties its claims are, and how its engine began.
 #[derive(Drop)]
@@ -32,7 +31,6 @@ pub(crate) struct WorkerCore<L: Link, C: Right, D: Delivery, E: Engine<L, C, D>>
     engine: E,
     in_flight: InFlight<L, C, D, E>,
     links: Links<L>,
-    solo: Solo,
     lent: Lent,
     is_stopping: bool,
     can_go_on: bool,
@@ -67,44 +65,24 @@ fn least_left<L: Link, C: Right, D: Delivery, E: Tied>(
     least
 }
 
-// One poll, in the context of the worker's one task, with the memory that the worker lends. The task goes on whatever the poll answers.
-// A task that has ended can't say whether a poll asked for another.
-fn poll_once<L: Link, D: Delivery>(
-    solo: &Solo,
-    lent: &mut Lent,
-    transfer: &mut Transfer<L, D>,
-) -> Polled<D>
-    requires running { transfer.old.chain.code ≡ None }
-    ensures steps { IsPolled L.history transfer.old.chain transfer.new.chain (how_of result) }
-    ensures waited { IfWaits result (HasWaited transfer.new.chain.now) }
-    ensures value { IfEnded result (λ o. o.request ≡ transfer.old.chain.request) }
-    ensures again { IfGoing result (transfer.new.chain.code ≡ None) }
-    ensures same { IfGoing result (transfer.new.chain.request ≡ transfer.old.chain.request) }
+// One poll, with the memory that the worker lends.
+fn poll_once<L: Link, D: Delivery>(lent: &mut Lent, transfer: &mut TransferCore<L, D>) -> Polled<D>
+    requires running { transfer.old.code ≡ None }
+    ensures steps { IsPolled L.history transfer.old transfer.new (how_of result) }
+    ensures waited { IfWaits result (HasWaited transfer.new.now) }
+    ensures value { IfEnded result (λ o. o.request ≡ transfer.old.request) }
+    ensures again { IfGoing result (transfer.new.code ≡ None) }
+    ensures same { IfGoing result (transfer.new.request ≡ transfer.old.request) }
 {
-    let mut cx = solo.begin();
     lent.swap(transfer);
-    let polled = transfer.poll(&mut cx);
+    let polled = transfer.poll();
     lent.swap(transfer);
-    match polled {
-        Poll::Ready(ended) => {
-            let _again: Poll<()> = cx.yield_now();
-            cx.park();
-            Polled::Ended(ended)
-        }
-        Poll::Pending => {
-            cx.park();
-            if transfer.has_asked() {
-                Polled::Asks
-            } else {
-                Polled::Waits
-            }
-        }
-    }
+    polled
 }
 
 // Whether a transfer wants a link.
-fn wants_link<L: Link, D: Delivery>(transfer: &Transfer<L, D>) -> bool
-    ensures { IsTrue result ↔ WantsLink transfer.now.chain.now }
+fn wants_link<L: Link, D: Delivery>(transfer: &TransferCore<L, D>) -> bool
+    ensures { IsTrue result ↔ WantsLink transfer.now.now }
 {
     transfer.wants().is_some()
 }
@@ -115,9 +93,9 @@ fn awaits_link<L: Link, D: Delivery>(
     has_waited: bool,
     goes: bool,
     now: u64,
-    transfer: &Transfer<L, D>,
+    transfer: &TransferCore<L, D>,
 ) -> bool
-    ensures { IsTrue result → (has_waited ≡ true) × (goes ≡ true) × WantsLink transfer.now.chain.now × ¬ (IsDue transfer.now.chain.now.deadline now) }
+    ensures { IsTrue result → (has_waited ≡ true) × (goes ≡ true) × WantsLink transfer.now.now × ¬ (IsDue transfer.now.now.deadline now) }
 {
     has_waited && goes && wants_link(transfer) && !is_due(transfer.deadline(), now)
 }
@@ -154,8 +132,7 @@ fn could_go_on(goes: bool, delayed: bool, wants: bool) -> bool
 }
 
 // Hands in an end. One that is refused memory comes back.
-fn hand_in<L: Link, C: Right, D: Delivery, E: Engine<L, C, D>, R: Wait>(
-    rt: &R,
+fn hand_in<L: Link, C: Right, D: Delivery, E: Engine<L, C, D>>(
     engine: &mut E,
     finished: Finished<C, D>,
 ) -> Option<Finished<C, D>>
@@ -164,7 +141,7 @@ fn hand_in<L: Link, C: Right, D: Delivery, E: Engine<L, C, D>, R: Wait>(
     ensures same { (E.of engine.new ≡ E.of engine.old) × (E.start engine.new ≡ E.start engine.old) }
 {
     let mut place = Some(finished);
-    engine.finish(rt, &mut place);
+    engine.finish(&mut place);
     place
 }
 
@@ -173,7 +150,6 @@ impl<L: Link, C: Right, D: Delivery, E: Engine<L, C, D>> WorkerCore<L, C, D, E> 
         engine: E,
         in_flight: InFlight<L, C, D, E>,
         links: Links<L>,
-        solo: Solo,
         lent: Lent,
     ) -> WorkerCore<L, C, D, E>
         requires { in_flight.of ≡ E.of engine }
@@ -187,7 +163,6 @@ impl<L: Link, C: Right, D: Delivery, E: Engine<L, C, D>> WorkerCore<L, C, D, E> 
             engine,
             in_flight,
             links,
-            solo,
             lent,
             is_stopping: false,
             can_go_on: false,
@@ -202,15 +177,37 @@ impl<L: Link, C: Right, D: Delivery, E: Engine<L, C, D>> WorkerCore<L, C, D, E> 
             engine,
             in_flight,
             links,
-            solo,
             lent,
             ..
         } = self;
         drop(in_flight);
         drop(links);
-        drop(solo);
         drop(lent);
         engine
+    }
+
+    /// Gives its engine, and takes this one in its place, which is of the same list of ties.
+    pub fn swap_engine(&mut self, engine: &mut E)
+        requires of { E.of engine.old ≡ self.old.of }
+        ensures taken { self.new ≡ record self.old { worker = record self.old.worker { did = E.did engine.old }; start = E.start engine.old } }
+        ensures given { (E.did engine.new ≡ self.old.worker.did) × (E.start engine.new ≡ self.old.start) }
+        ensures same { E.of engine.new ≡ E.of engine.old }
+    {
+        mem::swap(&mut self.engine, engine);
+    }
+
+    /// Whether something could go on at once after its last turn.
+    pub fn can_go_on(&self) -> bool
+        ensures { result ≡ self.now.worker.can_go_on }
+    {
+        self.can_go_on
+    }
+
+    /// A deadline before which none of its transfers' comes, where one of them has one.
+    pub fn least_deadline(&self) -> Option<u64>
+        ensures { All (λ h. Bounds result h.transfer.now.deadline) self.now.worker.held }
+    {
+        least_deadline(self.in_flight.held())
     }
 
     // rule turn-over
@@ -260,14 +257,14 @@ impl<L: Link, C: Right, D: Delivery, E: Engine<L, C, D>> WorkerCore<L, C, D, E> 
 
     // rule turn-claims
     // Claims a transfer, if there is one and it has room for it.
-    fn claim<R: Wait>(&mut self, rt: &R)
+    fn claim(&mut self)
         ensures claims { Claims self.old.worker self.new.worker }
         ensures same { self.new ≡ record self.old { worker = self.new.worker } }
     {
         if self.is_stopping || !self.in_flight.has_room() {
             return;
         }
-        let Some(claimed) = self.engine.claim(rt) else {
+        let Some(claimed) = self.engine.claim() else {
             return;
         };
         // proof: the transfer has not ended
@@ -278,13 +275,13 @@ impl<L: Link, C: Right, D: Delivery, E: Engine<L, C, D>> WorkerCore<L, C, D, E> 
     }
 
     // Hands in an end. One that is refused memory is set aside.
-    fn record<R: Wait>(&mut self, rt: &R, finished: Finished<C, D>)
+    fn record(&mut self, finished: Finished<C, D>)
         requires room { in_hand self.old.worker < most_transfers }
         requires own { finished.of ≡ self.old.of }
         ensures retries { Retries finished.end self.old.worker self.new.worker }
         ensures same { self.new ≡ record self.old { worker = self.new.worker } }
     {
-        if let Some(finished) = hand_in(rt, &mut self.engine, finished) {
+        if let Some(finished) = hand_in(&mut self.engine, finished) {
             self.in_flight.set_aside(finished);
         }
     }
@@ -297,11 +294,11 @@ impl<L: Link, C: Right, D: Delivery, E: Engine<L, C, D>> WorkerCore<L, C, D, E> 
         gate: &mut G,
         now: u64,
         goes: bool,
-        transfer: &mut Transfer<L, D>,
+        transfer: &mut TransferCore<L, D>,
     ) -> bool
-        ensures ready { IsReadied L.history L.token_of (prepared now goes transfer.old.chain) transfer.new.chain goes result (beside self.old.worker (G.said gate.old)) (beside self.new.worker (G.said gate.new)) }
-        ensures code { transfer.new.chain.code ≡ transfer.old.chain.code }
-        ensures request { transfer.new.chain.request ≡ transfer.old.chain.request }
+        ensures ready { IsReadied L.history L.token_of (prepared now goes transfer.old) transfer.new goes result (beside self.old.worker (G.said gate.old)) (beside self.new.worker (G.said gate.new)) }
+        ensures code { transfer.new.code ≡ transfer.old.code }
+        ensures request { transfer.new.request ≡ transfer.old.request }
         ensures same { self.new ≡ record self.old { worker = self.new.worker } }
     {
         transfer.prepare(now, !goes);
@@ -313,8 +310,8 @@ impl<L: Link, C: Right, D: Delivery, E: Engine<L, C, D>> WorkerCore<L, C, D, E> 
 
     // rule turn-progress
     // Notes how many bytes a transfer has received, and keeps the link that a hop left.
-    fn note(&mut self, right: &C, transfer: &mut Transfer<L, D>)
-        ensures noted { IsNoted (record { ticket = C.ticket_of right.now; slot = C.slot_of right.now; transfer = transfer.old.chain }) transfer.new.chain self.old.worker self.new.worker }
+    fn note(&mut self, right: &C, transfer: &mut TransferCore<L, D>)
+        ensures noted { IsNoted (record { ticket = C.ticket_of right.now; slot = C.slot_of right.now; transfer = transfer.old }) transfer.new self.old.worker self.new.worker }
         ensures same { self.new ≡ record self.old { worker = self.new.worker } }
     {
         self.engine.note(right, transfer.received());
@@ -322,38 +319,31 @@ impl<L: Link, C: Right, D: Delivery, E: Engine<L, C, D>> WorkerCore<L, C, D, E> 
     }
 
     // Polls a transfer once, and notes what it has received before its end is recorded: from then on the slot may be another transfer's.
-    fn poll(&mut self, right: &C, transfer: &mut Transfer<L, D>) -> Polled<D>
-        requires running { transfer.old.chain.code ≡ None }
-        ensures polls { Polls L.history (record { ticket = C.ticket_of right.now; slot = C.slot_of right.now; transfer = transfer.old.chain }) transfer.new.chain self.old.worker self.new.worker (how_of result) }
-        ensures waited { IfWaits result (HasWaited transfer.new.chain.now) }
-        ensures value { IfEnded result (λ o. o.request ≡ transfer.old.chain.request) }
-        ensures again { IfGoing result (transfer.new.chain.code ≡ None) }
-        ensures request { IfGoing result (transfer.new.chain.request ≡ transfer.old.chain.request) }
+    fn poll(&mut self, right: &C, transfer: &mut TransferCore<L, D>) -> Polled<D>
+        requires running { transfer.old.code ≡ None }
+        ensures polls { Polls L.history (record { ticket = C.ticket_of right.now; slot = C.slot_of right.now; transfer = transfer.old }) transfer.new self.old.worker self.new.worker (how_of result) }
+        ensures waited { IfWaits result (HasWaited transfer.new.now) }
+        ensures value { IfEnded result (λ o. o.request ≡ transfer.old.request) }
+        ensures again { IfGoing result (transfer.new.code ≡ None) }
+        ensures request { IfGoing result (transfer.new.request ≡ transfer.old.request) }
         ensures same { self.new ≡ record self.old { worker = self.new.worker } }
     {
-        let stepped = poll_once(&self.solo, &mut self.lent, transfer);
+        let stepped = poll_once(&mut self.lent, transfer);
         self.note(right, transfer);
         stepped
     }
 
     // Polls a transfer that is ready, and holds it on unless it has ended.
-    fn serve<R: Wait>(
-        &mut self,
-        rt: &R,
-        right: C,
-        transfer: Box<Transfer<L, D>>,
-        goes: bool,
-        delayed: bool,
-    )
+    fn serve(&mut self, right: C, transfer: Box<TransferCore<L, D>>, goes: bool, delayed: bool)
         requires room { in_hand self.old.worker < most_transfers }
         requires own { C.of right ≡ self.old.of }
-        requires running { transfer.value.chain.code ≡ None }
-        requires origin { request_origin transfer.value.chain.request ≡ C.origin_of right }
-        ensures serves { (said : List Said) → Serves L.history (record { ticket = C.ticket_of right; slot = C.slot_of right; transfer = transfer.value.chain }) goes delayed (beside self.old.worker said) (beside self.new.worker said) }
+        requires running { transfer.value.code ≡ None }
+        requires origin { request_origin transfer.value.request ≡ C.origin_of right }
+        ensures serves { (said : List Said) → Serves L.history (record { ticket = C.ticket_of right; slot = C.slot_of right; transfer = transfer.value }) goes delayed (beside self.old.worker said) (beside self.new.worker said) }
         ensures same { self.new ≡ record self.old { worker = self.new.worker } }
     {
         let mut transfer = transfer;
-        let polled: &mut Transfer<L, D> = &mut transfer;
+        let polled: &mut TransferCore<L, D> = &mut transfer;
         match self.poll(&right, polled) {
             Polled::Waits => {
                 let wants = wants_link(polled);
@@ -365,23 +355,23 @@ impl<L: Link, C: Right, D: Delivery, E: Engine<L, C, D>> WorkerCore<L, C, D, E> 
             Polled::Asks => self.hold_on(Claimed::new(right, transfer), goes),
             Polled::Ended(outcome) => {
                 drop(transfer);
-                self.record(rt, Finished::new(right, outcome));
+                self.record(Finished::new(right, outcome));
             }
         }
     }
 
     // Holds on to a transfer that a poll wouldn't change.
-    fn rest(&mut self, right: C, transfer: Box<Transfer<L, D>>, delayed: bool)
+    fn rest(&mut self, right: C, transfer: Box<TransferCore<L, D>>, delayed: bool)
         requires room { in_hand self.old.worker < most_transfers }
         requires own { C.of right ≡ self.old.of }
-        requires running { transfer.value.chain.code ≡ None }
-        requires origin { request_origin transfer.value.chain.request ≡ C.origin_of right }
-        requires awaits { AwaitsLink transfer.value.chain.now }
-        ensures serves { (said : List Said) → Serves L.history (record { ticket = C.ticket_of right; slot = C.slot_of right; transfer = transfer.value.chain }) true delayed (beside self.old.worker said) (beside self.new.worker said) }
+        requires running { transfer.value.code ≡ None }
+        requires origin { request_origin transfer.value.request ≡ C.origin_of right }
+        requires awaits { AwaitsLink transfer.value.now }
+        ensures serves { (said : List Said) → Serves L.history (record { ticket = C.ticket_of right; slot = C.slot_of right; transfer = transfer.value }) true delayed (beside self.old.worker said) (beside self.new.worker said) }
         ensures same { self.new ≡ record self.old { worker = self.new.worker } }
     {
         let mut transfer = transfer;
-        let rested: &mut Transfer<L, D> = &mut transfer;
+        let rested: &mut TransferCore<L, D> = &mut transfer;
         self.note(&right, rested);
         self.hold_on(
             Claimed::waiting(right, transfer),
@@ -392,9 +382,8 @@ impl<L: Link, C: Right, D: Delivery, E: Engine<L, C, D>> WorkerCore<L, C, D, E> 
     // rule turn-room
     // Has the delivery of a transfer make room, makes the transfer ready, polls it once, and holds it on unless it has ended. One that a poll
     // wouldn't change isn't polled: a worker may hold many that wait for a link.
-    fn advance<R: Wait, G: Gate<Link = L>>(
+    fn advance<G: Gate<Link = L>>(
         &mut self,
-        rt: &R,
         gate: &mut G,
         now: u64,
         held: Claimed<L, C, D>,
@@ -407,38 +396,32 @@ impl<L: Link, C: Right, D: Delivery, E: Engine<L, C, D>> WorkerCore<L, C, D, E> 
     {
         let has_waited = held.has_waited();
         let (right, mut transfer) = held.into_parts();
-        let ready: &mut Transfer<L, D> = &mut transfer;
+        let ready: &mut TransferCore<L, D> = &mut transfer;
         let has_room = ready.make_room();
         let goes = goes_on(may_go, has_room);
         let delayed = self.make_ready(gate, now, goes, ready);
         if awaits_link(has_waited, goes, now, ready) {
             return self.rest(right, transfer, delayed);
         }
-        self.serve(rt, right, transfer, goes, delayed);
+        self.serve(right, transfer, goes, delayed);
     }
 
     // rule worker-requeued-deadline
     // Requeues a transfer as it is, with its link. It is held no more, whatever the answer is.
-    fn give_back<R: Wait>(&mut self, rt: &R, held: Claimed<L, C, D>)
+    fn give_back(&mut self, held: Claimed<L, C, D>)
         requires own { held.of ≡ self.old.of }
         ensures gives { (r : Return) × (self.new.worker ≡ does self.old.worker (gives_back held.held r)) }
         ensures same { self.new ≡ record self.old { worker = self.new.worker } }
     {
         let mut place = Some(held);
-        self.engine.give_back(rt, &mut place);
+        self.engine.give_back(&mut place);
         drop(place);
     }
 
     // rule turn-gone
     // rule turn-paused
     // Looks at a transfer, and polls it unless it is gone: then it is given back.
-    fn look_at<R: Wait, G: Gate<Link = L>>(
-        &mut self,
-        rt: &R,
-        gate: &mut G,
-        now: u64,
-        held: Claimed<L, C, D>,
-    )
+    fn look_at<G: Gate<Link = L>>(&mut self, gate: &mut G, now: u64, held: Claimed<L, C, D>)
         requires room { in_hand self.old.worker < most_transfers }
         requires own { held.of ≡ self.old.of }
         ensures looks { LooksAt L.history L.token_of now held.held (beside self.old.worker (G.said gate.old)) (beside self.new.worker (G.said gate.new)) }
@@ -446,14 +429,14 @@ impl<L: Link, C: Right, D: Delivery, E: Engine<L, C, D>> WorkerCore<L, C, D, E> 
     {
         let seen = self.engine.look(held.ticket());
         if is_gone(seen) {
-            return self.give_back(rt, held);
+            return self.give_back(held);
         }
-        self.advance(rt, gate, now, held, may_go(seen));
+        self.advance(gate, now, held, may_go(seen));
     }
 
     // rule turn-stop
     // Gives a transfer back that has not started. One that has is held on.
-    fn hand_back<R: Wait>(&mut self, rt: &R, held: Claimed<L, C, D>)
+    fn hand_back(&mut self, held: Claimed<L, C, D>)
         requires room { in_hand self.old.worker < most_transfers }
         requires own { held.of ≡ self.old.of }
         ensures gives { GivesBack held.held self.old.worker self.new.worker }
@@ -463,12 +446,12 @@ impl<L: Link, C: Right, D: Delivery, E: Engine<L, C, D>> WorkerCore<L, C, D, E> 
             self.hold(held);
             return;
         }
-        self.give_back(rt, held);
+        self.give_back(held);
     }
 
     // rule turn-set-aside
     // Hands in the ends again that were set aside, in order.
-    fn retry_those<R: Wait>(&mut self, rt: &R, todo: &mut Queue<Finished<C, D>, E>)
+    fn retry_those(&mut self, todo: &mut Queue<Finished<C, D>, E>)
         requires fits { length todo.old.items + in_hand self.old.worker ≤ most_transfers }
         requires own { todo.old.of ≡ self.old.of }
         ensures retries { Each Retries (map (λ e. e.end) todo.old.items) self.old.worker self.new.worker }
@@ -480,12 +463,12 @@ impl<L: Link, C: Right, D: Delivery, E: Engine<L, C, D>> WorkerCore<L, C, D, E> 
             let Some(finished) = todo.pop() else {
                 return;
             };
-            self.record(rt, finished);
+            self.record(finished);
         }
     }
 
     // Gives back what has not started, in order, and holds on to the rest.
-    fn stop_those<R: Wait>(&mut self, rt: &R, todo: &mut Queue<Claimed<L, C, D>, E>)
+    fn stop_those(&mut self, todo: &mut Queue<Claimed<L, C, D>, E>)
         requires fits { length todo.old.items + in_hand self.old.worker ≤ most_transfers }
         requires own { todo.old.of ≡ self.old.of }
         ensures gives { Each GivesBack (map (λ h. h.held) todo.old.items) self.old.worker self.new.worker }
@@ -497,15 +480,14 @@ impl<L: Link, C: Right, D: Delivery, E: Engine<L, C, D>> WorkerCore<L, C, D, E> 
             let Some(held) = todo.pop() else {
                 return;
             };
-            self.hand_back(rt, held);
+            self.hand_back(held);
         }
     }
 
     // Looks at each of these once: one that is due, while there is one, else the first. It reads the clock before each that isn't due, and
     // the answer is the last moment. One reading a turn would be too few: 64 transfers may make 64 reads each meanwhile.
-    fn go_through<R: Wait, G: Gate<Link = L>>(
+    fn go_through<G: Gate<Link = L>>(
         &mut self,
-        rt: &R,
         gate: &mut G,
         now: u64,
         todo: &mut Queue<Claimed<L, C, D>, E>,
@@ -524,14 +506,14 @@ impl<L: Link, C: Right, D: Delivery, E: Engine<L, C, D>> WorkerCore<L, C, D, E> 
             let Some(held) = take_next(gate, todo, &mut least, &mut moment, is_new) else {
                 unreachable!()
             };
-            self.look_at(rt, gate, moment, held);
+            self.look_at(gate, moment, held);
             is_new = false;
         }
         moment
     }
 
     // Tries the ends again that were set aside.
-    fn retry_all<R: Wait>(&mut self, rt: &R, todo: &mut Queue<Finished<C, D>, E>)
+    fn retry_all(&mut self, todo: &mut Queue<Finished<C, D>, E>)
         requires spare { todo.old.items ≡ [] }
         requires own { todo.old.of ≡ self.old.of }
         ensures retries { Each Retries self.old.worker.set_aside (record self.old.worker { set_aside = [] }) self.new.worker }
@@ -539,13 +521,12 @@ impl<L: Link, C: Right, D: Delivery, E: Engine<L, C, D>> WorkerCore<L, C, D, E> 
         ensures same { self.new ≡ record self.old { worker = self.new.worker } }
     {
         self.in_flight.swap_set_aside(todo);
-        self.retry_those(rt, todo);
+        self.retry_those(todo);
     }
 
     // Goes through what it holds. The answer is the last moment.
-    fn go_all<R: Wait, G: Gate<Link = L>>(
+    fn go_all<G: Gate<Link = L>>(
         &mut self,
-        rt: &R,
         gate: &mut G,
         now: u64,
         todo: &mut Queue<Claimed<L, C, D>, E>,
@@ -557,7 +538,7 @@ impl<L: Link, C: Right, D: Delivery, E: Engine<L, C, D>> WorkerCore<L, C, D, E> 
         ensures same { self.new ≡ record self.old { worker = self.new.worker } }
     {
         self.in_flight.swap_held(todo);
-        self.go_through(rt, gate, now, todo)
+        self.go_through(gate, now, todo)
     }
 
     // rule turn-wait
@@ -572,7 +553,7 @@ impl<L: Link, C: Right, D: Delivery, E: Engine<L, C, D>> WorkerCore<L, C, D, E> 
     }
 
     // Gives back what has not started, in order of claim.
-    fn stop<R: Wait>(&mut self, rt: &R, todo: &mut Queue<Claimed<L, C, D>, E>)
+    fn stop(&mut self, todo: &mut Queue<Claimed<L, C, D>, E>)
         requires spare { todo.old.items ≡ [] }
         requires own { todo.old.of ≡ self.old.of }
         ensures gives { Each GivesBack self.old.worker.held (record self.old.worker { is_stopping = true; held = [] }) self.new.worker }
@@ -581,12 +562,12 @@ impl<L: Link, C: Right, D: Delivery, E: Engine<L, C, D>> WorkerCore<L, C, D, E> 
     {
         self.is_stopping = true;
         self.in_flight.swap_held(todo);
-        self.stop_those(rt, todo);
+        self.stop_those(todo);
     }
 
     // rule turn-stop
     // Begins to stop where it is told to, else goes on.
-    fn hear<R: Wait>(&mut self, rt: &R, turn: Turn, todo: &mut Queue<Claimed<L, C, D>, E>)
+    fn hear(&mut self, turn: Turn, todo: &mut Queue<Claimed<L, C, D>, E>)
         requires spare { todo.old.items ≡ [] }
         requires own { todo.old.of ≡ self.old.of }
         ensures stops { Stops (is_stop turn) self.old.worker.is_stopping self.old.worker self.new.worker }
@@ -594,14 +575,13 @@ impl<L: Link, C: Right, D: Delivery, E: Engine<L, C, D>> WorkerCore<L, C, D, E> 
         ensures same { self.new ≡ record self.old { worker = self.new.worker } }
     {
         if matches!(turn, Turn::Stop) && !self.is_stopping {
-            self.stop(rt, todo);
+            self.stop(todo);
         }
     }
 
     /// One turn. The two queues are empty before and afterwards.
-    pub fn turn<R: Wait, G: Gate<Link = L>>(
+    pub fn turn<G: Gate<Link = L>>(
         &mut self,
-        rt: &R,
         gate: &mut G,
         held: &mut Queue<Claimed<L, C, D>, E>,
         ends: &mut Queue<Finished<C, D>, E>,
@@ -616,11 +596,11 @@ impl<L: Link, C: Right, D: Delivery, E: Engine<L, C, D>> WorkerCore<L, C, D, E> 
         self.can_go_on = false;
         let now = gate.now();
         self.relieve(gate);
-        self.claim(rt);
-        self.retry_all(rt, ends);
-        let last = self.go_all(rt, gate, now, held);
+        self.claim();
+        self.retry_all(ends);
+        let last = self.go_all(gate, now, held);
         let wait = self.wait_ms(last);
         let turn = gate.turn(wait);
-        self.hear(rt, turn, held);
+        self.hear(turn, held);
     }
 }

@@ -2,7 +2,7 @@ use denote.Param.Send.{sendable}
 use Rattle.std.proofs.Crossing.{crosses}
 use Rattle.mx_chain.proofs.Sends.{outcome_send}
 use Rattle.mx_multi.proofs.Sends.{at_work_send, seated_send}
-use Rattle.mx_transfer.proofs.QueuedSends.{queued_send}
+use Rattle.mx_transfer_core.proofs.QueuedSends.{queued_send}
 use Rattle.mx_crew.proofs.Sends.{worked_send}
 use Rattle.mx_crew.proofs.beside.run_beside.Goals as goal
 

@@ -1,5 +1,5 @@
 use Rattle.std.proofs.Common.{ℕ, ◌<◌, get_or}
-use Rattle.mx_worker_turns.specs.WorkerSteps.{HeldView}
+use Rattle.mx_turn.specs.Engines.{HeldView}
 use Rattle.mx_worker_turns.specs.Picks.{IsBounded}
 use Rattle.mx_worker_turns.proofs.next.least_deadline.Given as goal
 

@@ -1,5 +1,5 @@
 use Rattle.std.proofs.Common.{rules}
-use Rattle.mx_worker_turns.specs.WorkerSteps.{HeldView}
+use Rattle.mx_turn.specs.Engines.{HeldView}
 use Rattle.mx_worker_turns.specs.Picks.{IsBounded}
 use Rattle.mx_worker_turns.proofs.Passing.{takes_some}
 use Rattle.mx_worker_turns.proofs.Queues.{all_left}

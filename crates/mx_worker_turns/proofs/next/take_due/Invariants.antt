@@ -1,6 +1,6 @@
 use Rattle.std.proofs.Common.{◌≡◌, ℕ, ◌<◌, get_or}
 use Rattle.mx_turn.specs.Turn.{IsLate}
-use Rattle.mx_worker_turns.specs.WorkerSteps.{HeldView}
+use Rattle.mx_turn.specs.Engines.{HeldView}
 use Rattle.mx_worker_turns.proofs.next.take_due.Given as goal
 
 abbrev pub invariant-loop-place : goal.invariant-loop-place

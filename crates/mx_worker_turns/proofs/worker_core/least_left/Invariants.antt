@@ -1,6 +1,6 @@
 use Rattle.std.proofs.Common.{◌≡◌, ℕ, ◌≤◌, take, fold, min}
 use Rattle.mx_turn.specs.Turn.{longest_wait, time_left}
-use Rattle.mx_worker_turns.specs.WorkerSteps.{HeldView}
+use Rattle.mx_turn.specs.Engines.{HeldView}
 use Rattle.mx_worker_turns.proofs.worker_core.least_left.Given as goal
 
 abbrev pub invariant-loop-place : goal.invariant-loop-place

@@ -1,5 +1,4 @@
-use Rattle.std.proofs.Common.{◌≡◌, refl, true, false, ap}
-use Rattle.mx_transfer.specs.Transfers.{TransferState}
+use Rattle.std.proofs.Common.{◌≡◌, refl, true, false}
 use Rattle.mx_turn.proofs.Supplying.{by_none, by_idle, by_delay, by_gate, by_put_off_again}
 use Rattle.mx_turn.proofs.links.Links.supply.Goals as goal
 
@@ -7,7 +6,7 @@ pub returns-in_default-clause-supplied : goal.returns-in_default-clause-supplied
 returns-in_default-clause-supplied g c = by_none _ _ _ _ _ _ _ _ (λ wants. let x : false ≡ true = c.in_default.ensures.wants.1 wants in cc) refl refl refl
 
 pub returns-in-Some-take-clause-supplied : goal.returns-in-Some-take-clause-supplied
-returns-in-Some-take-clause-supplied g c = by_idle _ _ _ _ _ _ _ _ _ _ _ (c.in-Some.ensures.wants.0 refl) c.in-Some.ensures.which.0 c.in-Some.ensures.which.1 c.in-Some-take.ensures (ap (λ (t : TransferState g.row.L.Denot). t.chain) c.attach.ensures) refl
+returns-in-Some-take-clause-supplied g c = by_idle _ _ _ _ _ _ _ _ _ _ _ (c.in-Some.ensures.wants.0 refl) c.in-Some.ensures.which.0 c.in-Some.ensures.which.1 c.in-Some-take.ensures c.attach.ensures refl
 
 pub returns-clause-supplied : goal.returns-clause-supplied
 returns-clause-supplied g c = by_gate _ _ _ _ _ _ _ _ _ _ _ _ _ _ (c.in-Some.ensures.wants.0 refl) c.in-Some.ensures.which.0 c.in-Some.ensures.which.1 c.in_default-take.ensures c.in-Some-open.ensures.fresh c.in-Some-open.ensures.code c.give.ensures.given c.if-not-can_open.false c.can_open.ensures.noted c.in-Some-open.ensures.opens

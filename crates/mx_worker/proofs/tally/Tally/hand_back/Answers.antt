@@ -1,7 +1,7 @@
 use Rattle.std.proofs.Common.{ap, subst, sym, ◌∙◌, ◌∷◌, ◌++◌, []}
 use Rattle.mx_turn.specs.Workers.{gives_back}
 use Rattle.mx_lock.specs.Ties.{TiedClaimed}
-use Rattle.mx_worker_turns.specs.WorkerSteps.{HeldView}
+use Rattle.mx_turn.specs.Engines.{HeldView}
 use Rattle.mx_worker.specs.Work.{IsDone, return_of}
 use Rattle.mx_worker.proofs.Tallies.{done_return}
 use Rattle.mx_worker.proofs.tally.Tally.hand_back.Goals as goal

@@ -2,7 +2,8 @@ use Rattle.std.proofs.Common.{List, [], ◌∷◌, ◌∙◌, ap}
 use Rattle.std.specs.Prelude.{map}
 use Rattle.std.proofs.lemmas.List.{map-append}
 use Rattle.mx_turn.specs.Workers.{SetAside}
-use Rattle.mx_worker_turns.specs.WorkerSteps.{EndView, QueueView}
+use Rattle.mx_turn.specs.Engines.{EndView}
+use Rattle.mx_worker_turns.specs.WorkerSteps.{QueueView}
 use Rattle.mx_worker_turns.proofs.in_flight.InFlight.set_aside.Goals as goal
 
 pub returns : goal.returns

@@ -3,7 +3,8 @@ use Rattle.std.specs.Prelude.{All}
 use Rattle.mx_types.specs.Limits.{most_transfers}
 use Rattle.mx_turn.specs.Workers.{Worker, in_hand}
 use Rattle.mx_turn.specs.Turn.{GoesThrough}
-use Rattle.mx_worker_turns.specs.WorkerSteps.{HeldView, beside}
+use Rattle.mx_turn.specs.Engines.{HeldView}
+use Rattle.mx_worker_turns.specs.WorkerSteps.{beside}
 use Rattle.mx_worker_turns.specs.Picks.{IsBounded}
 use Rattle.mx_worker_turns.proofs.worker_core.WorkerCore.go_through.Given as goal
 

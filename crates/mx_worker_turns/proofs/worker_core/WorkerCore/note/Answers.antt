@@ -1,6 +1,5 @@
 use Rattle.std.proofs.Common.{◌∙◌, ℕ, [], ◌∷◌, ◌++◌, refl, ap}
 use Rattle.mx_turn.specs.Workers.{notes}
-use Rattle.mx_transfer.specs.Transfers.{TransferState}
 use Rattle.mx_worker_turns.proofs.Looking.{alike}
 use Rattle.mx_worker_turns.proofs.worker_core.WorkerCore.note.Goals as goal
 
@@ -10,6 +9,6 @@ returns-clause-noted g c =
     rw (← c.self.view_is) (record {
       idle = c.keep.new.self;
       keeps = c.keep.ensures.kept;
-      unlinks = ap (λ (t : TransferState _). t.chain) c.keep.ensures.rest;
+      unlinks = c.keep.ensures.rest;
       after = alike _ _ refl refl refl refl refl counted refl;
     })

@@ -1,5 +1,6 @@
 use Rattle.std.proofs.Common.{◌∙◌, sym, ap, refl}
-use Rattle.mx_worker_turns.specs.WorkerSteps.{WorkerView, EndView, InFlightView}
+use Rattle.mx_turn.specs.Engines.{EndView}
+use Rattle.mx_worker_turns.specs.WorkerSteps.{WorkerView, InFlightView}
 use Rattle.mx_worker_turns.proofs.Looking.{alike}
 use Rattle.mx_worker_turns.proofs.Handing.{came_back, was_taken, was_set_aside}
 use Rattle.mx_worker_turns.proofs.worker_core.WorkerCore.record.Goals as goal

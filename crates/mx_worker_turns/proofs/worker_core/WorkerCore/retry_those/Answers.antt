@@ -1,6 +1,6 @@
 use Rattle.std.proofs.Common.{rules, arith}
 use Rattle.mx_turn.specs.Turn.{Retries}
-use Rattle.mx_worker_turns.specs.WorkerSteps.{EndView}
+use Rattle.mx_turn.specs.Engines.{EndView}
 use Rattle.mx_worker_turns.proofs.Passing.{each_next, each_end, retries_fits}
 use Rattle.mx_worker_turns.proofs.worker_core.WorkerCore.retry_those.Goals as goal
 

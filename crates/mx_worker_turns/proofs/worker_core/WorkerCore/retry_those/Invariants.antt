@@ -2,7 +2,7 @@ use Rattle.std.proofs.Common.{◌≡◌, ◌≤◌, ◌+◌, length, map}
 use Rattle.mx_types.specs.Limits.{most_transfers}
 use Rattle.mx_turn.specs.Workers.{Worker, in_hand}
 use Rattle.mx_turn.specs.Turn.{Each, Retries}
-use Rattle.mx_worker_turns.specs.WorkerSteps.{EndView}
+use Rattle.mx_turn.specs.Engines.{EndView}
 use Rattle.mx_worker_turns.proofs.worker_core.WorkerCore.retry_those.Given as goal
 
 abbrev pub invariant-loop-gone : goal.invariant-loop-gone

@@ -1,7 +1,8 @@
 use Rattle.std.proofs.Common.{◌∙◌, ap}
 use Rattle.mx_turn.specs.Workers.{Worker}
 use Rattle.mx_turn.specs.Turn.{handed_in}
-use Rattle.mx_worker_turns.specs.WorkerSteps.{EndView, beside}
+use Rattle.mx_turn.specs.Engines.{EndView}
+use Rattle.mx_worker_turns.specs.WorkerSteps.{beside}
 use Rattle.mx_worker_turns.proofs.Looking.{handed_beside, settles_on}
 use Rattle.mx_worker_turns.proofs.Waiting.{polls_beside}
 use Rattle.mx_worker_turns.proofs.worker_core.WorkerCore.serve.Goals as goal

@@ -1,6 +1,6 @@
 use Rattle.std.proofs.Common.{rules, arith}
 use Rattle.mx_turn.specs.Turn.{GivesBack}
-use Rattle.mx_worker_turns.specs.WorkerSteps.{HeldView}
+use Rattle.mx_turn.specs.Engines.{HeldView}
 use Rattle.mx_worker_turns.proofs.Passing.{each_next, each_end, gives_fits}
 use Rattle.mx_worker_turns.proofs.worker_core.WorkerCore.stop_those.Goals as goal
 

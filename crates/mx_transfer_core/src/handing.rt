@@ -1,7 +1,7 @@
 //! What becomes of the content of a transfer.
 ghost use Rattle.std.specs.Prelude.{◌≡◌, [], ◌++◌, None};
 ghost use Rattle.mx_chain.specs.Outcomes.{EndsAs};
-ghost use Rattle.mx_transfer.specs.Deliveries.{IsHandedTo};
+ghost use Rattle.mx_transfer_core.specs.Deliveries.{IsHandedTo};
 
 use mx_chain::{ChainEnd, Outcome};
 use mx_sink::{Delivery, Window};

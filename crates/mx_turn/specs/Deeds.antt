@@ -2,9 +2,9 @@
 use Rattle.std.specs.Prelude.{ℕ, option_map}
 use Rattle.mx_types.specs.declared.names.Ticket.{Ticket}
 use Rattle.mx_turn.specs.Workers.{Deed, claims, looks, notes, finishes, gives_back, recorded, stale, lacking, unseated, returned, ended_before, unreturned}
-use Rattle.mx_worker_turns.specs.WorkerSteps.{HeldView, EndView}
-use Rattle.mx_worker_turns.specs.declared.deeds.Note.{Note}
-use Rattle.mx_worker_turns.specs.declared.deeds.Note.TheVariants as note
+use Rattle.mx_turn.specs.Engines.{HeldView, EndView}
+use Rattle.mx_turn.specs.declared.deeds.Note.{Note}
+use Rattle.mx_turn.specs.declared.deeds.Note.TheVariants as note
 
 abbrev pub done_by : {L C : Type 0} → (C → Ticket) → (C → ℕ) → Note (HeldView L) EndView C → Deed L
 done_by ticket slot (note.Claims h) = claims (option_map (λ x. x.held) h.value)

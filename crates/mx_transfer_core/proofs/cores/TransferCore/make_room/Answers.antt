@@ -1,7 +1,7 @@
 use Rattle.std.proofs.Common.{refl}
-use Rattle.mx_transfer.specs.Deliveries.{takes, has_none, has_failed}
-use Rattle.mx_transfer.proofs.HandedOn.{failure_given, flowing_is, limit_there}
-use Rattle.mx_transfer.proofs.transfers.Transfer.make_room.Goals as goal
+use Rattle.mx_transfer_core.specs.Deliveries.{takes, has_none, has_failed}
+use Rattle.mx_transfer_core.proofs.HandedOn.{failure_given, flowing_is, limit_there}
+use Rattle.mx_transfer_core.proofs.cores.TransferCore.make_room.Goals as goal
 
 pub returns-then-has_room-clause-room : goal.returns-then-has_room-clause-room
 returns-then-has_room-clause-room g c = rw (← c.self.view_is) (takes refl)

@@ -3,7 +3,7 @@ use Rattle.std.specs.Prelude.{Option}
 use Rattle.mx_types.specs.declared.code.Code.{Code}
 use Rattle.mx_chain.specs.Outcomes.{settled}
 use Rattle.mx_chain.proofs.HopLemmas.{flows_none}
-use Rattle.mx_transfer.proofs.handing.end_of.Goals as goal
+use Rattle.mx_transfer_core.proofs.handing.end_of.Goals as goal
 
 pub returns : goal.returns
 returns g c =

@@ -39,7 +39,7 @@ impl<L: Link, C: Right, D: Delivery> Drop for Done<L, C, D> {
 
 impl<L: Link, C: Right, D: Delivery> Model for Done<L, C, D> {
     ghost use Rattle.mx_turn.specs.Workers.{Deed};
-    ghost use Rattle.mx_worker_turns.specs.Deeds.{done_by};
+    ghost use Rattle.mx_turn.specs.Deeds.{done_by};
 
     ghost Value = { Deed L };
 

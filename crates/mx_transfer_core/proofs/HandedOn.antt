@@ -10,7 +10,7 @@ use Rattle.mx_line.specs.Lines.{HandsOver}
 use Rattle.mx_sink.specs.Sinks.{is_sink_code}
 use Rattle.mx_chain.specs.Chains.{ChainState}
 use Rattle.mx_chain.specs.Outcomes.{OutcomeValue, EndsAs, limit_by, settled, settled_code}
-use Rattle.mx_transfer.specs.Deliveries.{begun_for, IsHandedTo, MakesRoom, has_none, has_failed}
+use Rattle.mx_transfer_core.specs.Deliveries.{begun_for, IsHandedTo, MakesRoom, has_none, has_failed}
 
 -- what was handed on before and in a turn is what the delivery was handed before and then all that is there
 pub handed_on : (content is rest more handed : List ℕ) → content ≡ handed ++ rest → HandsOver content is rest more → is ≡ handed ++ more

@@ -5,17 +5,16 @@ ghost use Rattle.mx_types.specs.declared.names.Ticket.{Ticket as OneTicket};
 ghost use Rattle.mx_types.specs.declared.origin.Origin.{Origin};
 ghost use Rattle.mx_request.specs.Request.{request_origin};
 ghost use Rattle.mx_turn.specs.Turn.{IsLate, longest_wait, time_left};
-ghost use Rattle.mx_worker_turns.specs.WorkerSteps.{HasWaited};
+ghost use Rattle.mx_turn.specs.Engines.{HasWaited};
 
 use mx_link::Link;
 use mx_sink::Delivery;
-use mx_transfer::{Outcome, Transfer};
+use mx_transfer_core::{Outcome, TransferCore};
 use mx_types::{Look, Ticket};
 use std::marker::Model;
-use std::sync::Wait;
 
 /// The longest wait of a turn, in milliseconds.
-pub(crate) const LONGEST_WAIT: u64 = 20;
+pub const LONGEST_WAIT: u64 = 20;
 
 /// What belongs to one engine: the one with this list of ties.
 pub trait Tied {
@@ -42,10 +41,10 @@ pub trait Right: Tied + Drop {
 /// A claimed transfer, which has not ended, and the right to it, which is of its request. Contracts see the ticket, the slot, the state of
 /// the transfer, and of which list of ties the right is. The transfer is boxed, since it goes from list to list in each turn.
 pub struct Claimed<L: Link, C: Right, D: Delivery> {
-    pub(crate) right: C,
-    pub(crate) transfer: Box<Transfer<L, D>>,
+    right: C,
+    transfer: Box<TransferCore<L, D>>,
     // Its last poll waited.
-    pub(crate) has_waited: bool,
+    has_waited: bool,
 }
 
 // Written out, and not derived: a crate that drops one cites its proof.
@@ -64,13 +63,13 @@ impl<L: Link, C: Right, D: Delivery> Drop for Claimed<L, C, D> {
 impl<L: Link, C: Right, D: Delivery> Model for Claimed<L, C, D> {
     ghost use Rattle.std.specs.Prelude.{◌≡◌, None, true};
     ghost use Rattle.mx_request.specs.Request.{request_origin};
-    ghost use Rattle.mx_worker_turns.specs.WorkerSteps.{HeldView, HasWaited};
+    ghost use Rattle.mx_turn.specs.Engines.{HeldView, HasWaited};
 
     ghost Value = { HeldView L };
 
-    ghost view = { λ h. record { held = record { ticket = C.ticket_of h.right; slot = C.slot_of h.right; transfer = h.transfer.value.chain }; of = C.of h.right } };
+    ghost view = { λ h. record { held = record { ticket = C.ticket_of h.right; slot = C.slot_of h.right; transfer = h.transfer.value }; of = C.of h.right } };
 
-    ghost invariant = { λ h. (h.transfer.value.chain.code ≡ None) × (request_origin h.transfer.value.chain.request ≡ C.origin_of h.right) × (h.has_waited ≡ true → HasWaited h.transfer.value.chain.now) };
+    ghost invariant = { λ h. (h.transfer.value.code ≡ None) × (request_origin h.transfer.value.request ≡ C.origin_of h.right) × (h.has_waited ≡ true → HasWaited h.transfer.value.now) };
 }
 
 impl<L: Link, C: Right, D: Delivery> Tied for Claimed<L, C, D> {
@@ -79,10 +78,10 @@ impl<L: Link, C: Right, D: Delivery> Tied for Claimed<L, C, D> {
 
 impl<L: Link, C: Right, D: Delivery> Claimed<L, C, D> {
     /// A transfer with the right to it.
-    pub fn new(right: C, transfer: Box<Transfer<L, D>>) -> Claimed<L, C, D>
-        requires running { transfer.value.chain.code ≡ None }
-        requires origin { request_origin transfer.value.chain.request ≡ C.origin_of right }
-        ensures { result ≡ record { held = record { ticket = C.ticket_of right; slot = C.slot_of right; transfer = transfer.value.chain }; of = C.of right } }
+    pub fn new(right: C, transfer: Box<TransferCore<L, D>>) -> Claimed<L, C, D>
+        requires running { transfer.value.code ≡ None }
+        requires origin { request_origin transfer.value.request ≡ C.origin_of right }
+        ensures { result ≡ record { held = record { ticket = C.ticket_of right; slot = C.slot_of right; transfer = transfer.value }; of = C.of right } }
     {
         Claimed {
             right,
@@ -92,11 +91,11 @@ impl<L: Link, C: Right, D: Delivery> Claimed<L, C, D> {
     }
 
     /// A transfer whose last poll waited, with the right to it.
-    pub(crate) fn waiting(right: C, transfer: Box<Transfer<L, D>>) -> Claimed<L, C, D>
-        requires running { transfer.value.chain.code ≡ None }
-        requires origin { request_origin transfer.value.chain.request ≡ C.origin_of right }
-        requires waited { HasWaited transfer.value.chain.now }
-        ensures { result ≡ record { held = record { ticket = C.ticket_of right; slot = C.slot_of right; transfer = transfer.value.chain }; of = C.of right } }
+    pub fn waiting(right: C, transfer: Box<TransferCore<L, D>>) -> Claimed<L, C, D>
+        requires running { transfer.value.code ≡ None }
+        requires origin { request_origin transfer.value.request ≡ C.origin_of right }
+        requires waited { HasWaited transfer.value.now }
+        ensures { result ≡ record { held = record { ticket = C.ticket_of right; slot = C.slot_of right; transfer = transfer.value }; of = C.of right } }
     {
         Claimed {
             right,
@@ -106,17 +105,17 @@ impl<L: Link, C: Right, D: Delivery> Claimed<L, C, D> {
     }
 
     /// Whether its last poll is known to have waited.
-    pub(crate) fn has_waited(&self) -> bool
+    pub fn has_waited(&self) -> bool
         ensures { result ≡ true → HasWaited self.now.held.transfer.now }
     {
         self.has_waited
     }
 
     /// The right and the transfer, by move.
-    pub fn into_parts(self) -> (C, Box<Transfer<L, D>>)
-        ensures parts { self ≡ record { held = record { ticket = C.ticket_of result.0; slot = C.slot_of result.0; transfer = result.1.value.chain }; of = C.of result.0 } }
-        ensures running { result.1.value.chain.code ≡ None }
-        ensures origin { request_origin result.1.value.chain.request ≡ C.origin_of result.0 }
+    pub fn into_parts(self) -> (C, Box<TransferCore<L, D>>)
+        ensures parts { self ≡ record { held = record { ticket = C.ticket_of result.0; slot = C.slot_of result.0; transfer = result.1.value }; of = C.of result.0 } }
+        ensures running { result.1.value.code ≡ None }
+        ensures origin { request_origin result.1.value.request ≡ C.origin_of result.0 }
     {
         let Claimed {
             right,
@@ -134,21 +133,21 @@ impl<L: Link, C: Right, D: Delivery> Claimed<L, C, D> {
     }
 
     /// Whether a link was attached once.
-    pub(crate) fn started(&self) -> bool
+    pub fn started(&self) -> bool
         ensures { result ≡ self.now.held.transfer.now.is_started }
     {
         self.transfer.started()
     }
 
     /// Its deadline.
-    pub(crate) fn deadline(&self) -> Option<u64>
+    pub fn deadline(&self) -> Option<u64>
         ensures { result ≡ self.now.held.transfer.now.deadline }
     {
         self.transfer.deadline()
     }
 
     /// Whether its deadline isn't after this moment.
-    pub(crate) fn is_late(&self, now: u64) -> bool
+    pub fn is_late(&self, now: u64) -> bool
         ensures { IsTrue result ↔ IsLate now self.now.held }
     {
         match self.transfer.deadline() {
@@ -158,7 +157,7 @@ impl<L: Link, C: Right, D: Delivery> Claimed<L, C, D> {
     }
 
     /// The milliseconds until its deadline, and at most the longest wait.
-    pub(crate) fn time_left(&self, now: u64) -> u32
+    pub fn time_left(&self, now: u64) -> u32
         ensures { result ≡ min longest_wait (time_left now self.now.held.transfer.now.deadline) }
     {
         let left = match self.transfer.deadline() {
@@ -173,7 +172,7 @@ impl<L: Link, C: Right, D: Delivery> Claimed<L, C, D> {
     }
 
     /// It does nothing: a call gives its caller's proof the fact that the transfer has not ended.
-    pub(crate) fn know(&self)
+    pub fn know(&self)
         ensures { self.now.held.transfer.code ≡ None }
     {
         // proof: the transfer has not ended
@@ -185,8 +184,8 @@ impl<L: Link, C: Right, D: Delivery> Claimed<L, C, D> {
 /// The right to a claimed transfer, and the outcome that ends it, which are of one request. Contracts see the ticket, the outcome, and of
 /// which list of ties the right is.
 pub struct Finished<C: Right, D: Delivery> {
-    pub(crate) right: C,
-    pub(crate) outcome: Outcome<D>,
+    right: C,
+    outcome: Outcome<D>,
 }
 
 // Written out, and not derived: a crate that drops one cites its proof.
@@ -201,7 +200,7 @@ impl<C: Right, D: Delivery> Drop for Finished<C, D> {
 impl<C: Right, D: Delivery> Model for Finished<C, D> {
     ghost use Rattle.std.specs.Prelude.{◌≡◌};
     ghost use Rattle.mx_request.specs.Request.{request_origin};
-    ghost use Rattle.mx_worker_turns.specs.WorkerSteps.{EndView};
+    ghost use Rattle.mx_turn.specs.Engines.{EndView};
 
     ghost Value = { EndView };
 
@@ -240,7 +239,7 @@ pub trait Engine<L: Link, C: Right, D: Delivery>: Tied + Drop {
     type Start;
 
     ghost use Rattle.mx_turn.specs.Workers.{Deed, Return, claims, looks, notes, gives_back};
-    ghost use Rattle.mx_worker_turns.specs.WorkerSteps.{HandsIn};
+    ghost use Rattle.mx_turn.specs.Engines.{HandsIn};
 
     // What was done at it so far, in order.
     ghost did: { Self → List (Deed L) };
@@ -249,7 +248,7 @@ pub trait Engine<L: Link, C: Right, D: Delivery>: Tied + Drop {
     ghost start: { Self → Self.Start };
 
     /// Asks for a transfer.
-    fn claim<R: Wait>(&mut self, rt: &R) -> Option<Claimed<L, C, D>>
+    fn claim(&mut self) -> Option<Claimed<L, C, D>>
         ensures did { did self.new ≡ did self.old ++ claims (option_map (λ h. h.held) result) ∷ [] }
         ensures own { IfSome result (λ h. h.of ≡ Self.of self.old) }
         ensures same { (Self.of self.new ≡ Self.of self.old) × (start self.new ≡ start self.old) };
@@ -265,13 +264,13 @@ pub trait Engine<L: Link, C: Right, D: Delivery>: Tied + Drop {
         ensures same { (Self.of self.new ≡ Self.of self.old) × (start self.new ≡ start self.old) };
 
     /// Hands in an end. One that is refused memory stays in its place.
-    fn finish<R: Wait>(&mut self, rt: &R, finished: &mut Option<Finished<C, D>>)
+    fn finish(&mut self, finished: &mut Option<Finished<C, D>>)
         requires own { IfSome finished.old (λ f. f.of ≡ Self.of self.old) }
         ensures did { IfSome finished.old (λ f. HandsIn (did self.old) (did self.new) f finished.new) }
         ensures same { (Self.of self.new ≡ Self.of self.old) × (start self.new ≡ start self.old) };
 
     /// Gives a transfer back.
-    fn give_back<R: Wait>(&mut self, rt: &R, held: &mut Option<Claimed<L, C, D>>)
+    fn give_back(&mut self, held: &mut Option<Claimed<L, C, D>>)
         requires own { IfSome held.old (λ h. h.of ≡ Self.of self.old) }
         ensures did { IfSome held.old (λ h. (r : Return) × (did self.new ≡ did self.old ++ gives_back h.held r ∷ [])) }
         ensures same { (Self.of self.new ≡ Self.of self.old) × (start self.new ≡ start self.old) };

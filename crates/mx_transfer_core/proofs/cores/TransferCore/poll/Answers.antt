@@ -1,7 +1,7 @@
 use Rattle.std.proofs.Common.{◌∙◌, ap, sym}
 use Rattle.mx_chain.specs.Outcomes.{limit_by}
-use Rattle.mx_transfer.proofs.HandedOn.{handed_on}
-use Rattle.mx_transfer.proofs.transfers.TransferFuture.poll.Goals as goal
+use Rattle.mx_transfer_core.proofs.HandedOn.{handed_on}
+use Rattle.mx_transfer_core.proofs.cores.TransferCore.poll.Goals as goal
 
 pub end_of-requires : goal.end_of-requires
 end_of-requires g c =

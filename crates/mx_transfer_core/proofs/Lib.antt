@@ -1,0 +1,3 @@
+mod HandedOn
+pub mod QueuedSends
+pub mod Sends
