@@ -12,7 +12,7 @@ rt=$(command -v rt) || { echo 'layout: there is no rt, which comes with the Ratt
 find crates -name out -prune -o \( -name '*.rt' -o -name '*.antt' \) -print0 |
   xargs -0 "$(dirname "$(readlink -f "$rt")")/rattle" fmt --check ||
   { echo 'layout: run rt fmt in the folders of these crates'; exit 1; }
-! ls -d crates/{mx_caller,mx_save_caller}/proofs 2> /dev/null | grep . ||
+! ls -d crates/{mx_caller,mx_solo_caller,mx_save_caller}/proofs 2> /dev/null | grep . ||
   { echo 'layout: these callers are to be proved without proof files'; exit 1; }
 python3 -B - <<'PYTHON'
 import glob, re, sys

@@ -28,6 +28,8 @@ mod rows;
 #[cfg(test)]
 mod runs;
 #[cfg(test)]
+mod solo;
+#[cfg(test)]
 pub mod stage;
 #[cfg(test)]
 mod steps;

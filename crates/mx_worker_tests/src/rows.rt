@@ -18,3 +18,8 @@ fn each_row_comes_as_it_says(rt: HostRuntime) -> Result<(), Fail> {
 fn each_flow_comes_as_it_says(rt: HostRuntime) -> Result<(), Fail> {
     flowing::are_so(&rt)
 }
+
+#[test]
+fn each_call_on_one_thread_comes_as_it_says(rt: HostRuntime) -> Result<(), Fail> {
+    solo::are_so(rt.alloc())
+}

@@ -1,0 +1,4 @@
+mod Additions
+mod Owning
+mod Requests
+mod Steps
