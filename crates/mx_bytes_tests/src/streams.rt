@@ -3,7 +3,7 @@
 
 use crate::wrong::{By, Wrong, first_wrong_of_all, verdict};
 use mx_body::Part;
-use mx_flow::{Stand, Stream};
+use mx_flow::{Stream, StreamState};
 use mx_head::{Framing, HeadStep, framing, read_head};
 use mx_reason::reason_of;
 use mx_responses_tests_base::bases::{LARGE, OPEN, SHORT, WHOLE};
@@ -17,11 +17,11 @@ use std::test::Fail;
 const LENS: [usize; 5] = [1, 2, 3, 7, 1_000_000];
 
 /// The code of a state; `None` where nothing is decided yet.
-fn code_of(stand: Stand) -> Option<Code> {
+fn code_of(stand: StreamState) -> Option<Code> {
     match stand {
-        Stand::More => None,
-        Stand::Whole => Some(Code::Ok),
-        Stand::Fault(code) => Some(code),
+        StreamState::More => None,
+        StreamState::Whole => Some(Code::Ok),
+        StreamState::Fault(code) => Some(code),
     }
 }
 
@@ -73,9 +73,9 @@ pub(crate) fn code_before_end(row: &Response) -> Option<Code> {
 /// Whether a response that is whole before its end keeps its connection.
 fn keeps(stream: &Stream) -> bool {
     match stream.stand() {
-        Stand::More => false,
-        Stand::Whole => stream.keeps(),
-        Stand::Fault(_) => false,
+        StreamState::More => false,
+        StreamState::Whole => stream.keeps(),
+        StreamState::Fault(_) => false,
     }
 }
 

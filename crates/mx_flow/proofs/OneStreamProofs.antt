@@ -25,8 +25,8 @@ use Rattle.mx_flow.specs.Data.{datum, data_from}
 use Rattle.mx_flow.specs.Flows.{IsBodyOf, IsOpen, IsBad, IsTooLarge, content_so_far}
 use Rattle.mx_flow.specs.Responses.{IsResponseOf, HasCome}
 use Rattle.mx_flow.specs.Streams.{IsUndecidedOf, HasBadFraming, IsFaultOf, HasContent, StreamValue, HasStand, HasOneStream}
-use Rattle.mx_flow.specs.declared.stand.Stand.{Stand}
-use Rattle.mx_flow.specs.declared.stand.Stand.TheVariants as stand
+use Rattle.mx_flow.specs.declared.stream_state.StreamState.{StreamState}
+use Rattle.mx_flow.specs.declared.stream_state.StreamState.TheVariants as stand
 use Rattle.mx_flow.proofs.DataLemmas.{data_from-nil, data_from-cons, data_from-append}
 use Rattle.mx_flow.proofs.LawProofs.{not_yet}
 
@@ -177,14 +177,14 @@ same_fault limit m wire c d (inr (inr a)) (inr (inr b)) =
     (subst (λ (t : List ℕ). (IsBad limit a.0 t × (c ≡ RecvError)) ⊎ (IsTooLarge limit a.0 t × (c ≡ FilesizeExceeded))) one.1 a.3))
     b.3
 
-module _ (m : Method) (limit : ℕ) (wire heads others content other : List ℕ) (s t : Stand) where
+module _ (m : Method) (limit : ℕ) (wire heads others content other : List ℕ) (s t : StreamState) where
   abbrev here : StreamValue
   here = record { method = m; limit = limit; wire = wire; heads = heads; content = content; stand = s }
 
   abbrev there : StreamValue
   there = record { method = m; limit = limit; wire = wire; heads = others; content = other; stand = t }
 
-  same_stand : (a b : Stand) → HasStand here a → HasStand there b → a ≡ b
+  same_stand : (a b : StreamState) → HasStand here a → HasStand there b → a ≡ b
   same_stand stand.More stand.More x y = refl
   same_stand stand.More stand.Whole x y = absurd (undecided_or_whole limit m wire other x y)
   same_stand stand.More (stand.Fault d) x y = absurd (undecided_or_fault limit m wire d x y.1)

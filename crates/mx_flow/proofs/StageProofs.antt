@@ -26,8 +26,8 @@ use Rattle.mx_flow.specs.Streams.{HasBadFraming, StreamValue, HasStand, IsStream
 use Rattle.mx_flow.specs.Stages.{stand_of, AreKept, headless, at_stage, IsStage, HasKept, HasBodyEnd}
 use Rattle.mx_flow.specs.declared.flow.BodyState.{BodyState}
 use Rattle.mx_flow.specs.declared.flow.BodyState.TheVariants as state
-use Rattle.mx_flow.specs.declared.stand.Stand.{Stand}
-use Rattle.mx_flow.specs.declared.stand.Stand.TheVariants as stand
+use Rattle.mx_flow.specs.declared.stream_state.StreamState.{StreamState}
+use Rattle.mx_flow.specs.declared.stream_state.StreamState.TheVariants as stand
 use Rattle.mx_flow.specs.declared.stage.KeptHeads.{KeptHeads}
 use Rattle.mx_flow.specs.declared.stage.Stage.{Stage}
 use Rattle.mx_flow.specs.declared.stage.Stage.TheVariants as stage
@@ -170,7 +170,7 @@ taken_on heads len end n behind =
     sym (take-add end n heads) ∙ ap (λ (k : ℕ). take k heads) same ∙ take-add len (end - len + n) heads
 
 -- all are taken while no final head has come
-pub heads_taken : (m : Method) (limit : ℕ) (heads : List ℕ) (len n : ℕ) (s : Stand) (before : List ℕ) → len ≤ length heads → n ≡ length heads - len
+pub heads_taken : (m : Method) (limit : ℕ) (heads : List ℕ) (len n : ℕ) (s : StreamState) (before : List ℕ) → len ≤ length heads → n ≡ length heads - len
     → IsTaken (headless m limit (take len heads) stand.More) (headless m limit heads s) n (drop len heads) before before
 heads_taken m limit heads len n s before within is = record {
   within = omega (arith, is, length-drop len heads);
@@ -242,7 +242,7 @@ body_taken m limit kept old new n piece before after fed = record {
 }
 
 -- a response where the connection ends with its body
-pub body_ends : (m : Method) (limit : ℕ) (kept : KeptHeads) (flow : FlowValue) (s : Stand) → IsStage m limit (stage.Body kept flow) → HasBodyEnd flow s
+pub body_ends : (m : Method) (limit : ℕ) (kept : KeptHeads) (flow : FlowValue) (s : StreamState) → IsStage m limit (stage.Body kept flow) → HasBodyEnd flow s
     → HasEnd (at_stage m limit (stage.Body kept flow)) s
 body_ends m limit kept flow stand.More is h = h
 body_ends m limit kept flow stand.Whole is h =
@@ -322,7 +322,7 @@ refused_ends m limit s kept c is e =
     subst (λ (t : Stage). HasEnd (at_stage m limit t) (stand.Fault c)) (sym e)
     (none_at_end (at_stage m limit (stage.BadFraming kept c)) (bad_framing_hopeless limit m kept.bytes.items c (kept_refused m kept c refused.0 refused.1)), inl refl)
 
-pub body_ends_so : (m : Method) (limit : ℕ) (s : Stage) (kept : KeptHeads) (flow : FlowValue) (end : Stand) → IsStage m limit s → s ≡ stage.Body kept flow → HasBodyEnd flow end
+pub body_ends_so : (m : Method) (limit : ℕ) (s : Stage) (kept : KeptHeads) (flow : FlowValue) (end : StreamState) → IsStage m limit s → s ≡ stage.Body kept flow → HasBodyEnd flow end
     → HasEnd (at_stage m limit s) end
 body_ends_so m limit s kept flow end is e h =
     subst (λ (t : Stage). HasEnd (at_stage m limit t) end) (sym e) (body_ends m limit kept flow end (subst (IsStage m limit) e is) h)

@@ -20,8 +20,8 @@ use Rattle.mx_body.proofs.ResponseLemmas.{response_meets_nothing}
 use Rattle.mx_flow.specs.Flows.{IsNone, data_so_far}
 use Rattle.mx_flow.specs.Responses.{IsResponseOf, HasCome}
 use Rattle.mx_flow.specs.Streams.{IsHopelessOf, HasBadFraming, HasContent, StreamValue, IsStream, IsPrefixOfEach, IsNoneAtEnd, HasEnd}
-use Rattle.mx_flow.specs.declared.stand.Stand.{Stand}
-use Rattle.mx_flow.specs.declared.stand.Stand.TheVariants as stand
+use Rattle.mx_flow.specs.declared.stream_state.StreamState.{StreamState}
+use Rattle.mx_flow.specs.declared.stream_state.StreamState.TheVariants as stand
 use Rattle.mx_flow.proofs.ResponseProofs.{body_of, front_of_each_response}
 
 -- nothing is met before the first byte
@@ -131,12 +131,12 @@ none_at_end s hopeless content r =
     hopeless [] content true (subst (λ (t : List ℕ). IsResponseOf s.limit s.method t true content) (sym (append-nil s.wire)) r)
 
 -- the end of the connection decides
-pub end_decides : (s : StreamValue) (e : Stand) → HasEnd s e → e ≢ stand.More
+pub end_decides : (s : StreamValue) (e : StreamState) → HasEnd s e → e ≢ stand.More
 end_decides s stand.More h = absurd h
 end_decides s stand.Whole h = λ x. cc
 end_decides s (stand.Fault c) h = λ x. cc
 
-pub end_is_none : (s : StreamValue) (e : Stand) → HasEnd s e → e ≢ stand.Whole → IsNoneAtEnd s
+pub end_is_none : (s : StreamValue) (e : StreamState) → HasEnd s e → e ≢ stand.Whole → IsNoneAtEnd s
 end_is_none s stand.More h ne = absurd h
 end_is_none s stand.Whole h ne = absurd (ne refl)
 end_is_none s (stand.Fault c) h ne = h.0

@@ -27,8 +27,8 @@ use Rattle.mx_flow.specs.Whys.{BreaksIn, EndsIn, HasDefect, IsCutWhereOpen, Tell
 use Rattle.mx_flow.specs.declared.stage.KeptHeads.{KeptHeads}
 use Rattle.mx_flow.specs.declared.stage.Stage.{Stage}
 use Rattle.mx_flow.specs.declared.stage.Stage.TheVariants as stage
-use Rattle.mx_flow.specs.declared.stand.Stand.{Stand}
-use Rattle.mx_flow.specs.declared.stand.Stand.TheVariants as stand
+use Rattle.mx_flow.specs.declared.stream_state.StreamState.{StreamState}
+use Rattle.mx_flow.specs.declared.stream_state.StreamState.TheVariants as stand
 use Rattle.mx_flow.proofs.StageProofs.{kept_come, kept_refused}
 use Rattle.mx_flow.proofs.StreamProofs.{none_asked}
 
@@ -87,7 +87,7 @@ of_heads limit m wire None bodiless told = told
 of_heads limit m wire (Some r) bodiless told = inl (record { bodiless = bodiless; tells = told })
 
 -- it tells of no cut where the heads are refused
-never_cut : (m : Method) (wire : List ℕ) (s : Stand) (o : Option Reason) → (IsVerdict m wire false verdict.More → ⊥) → IfSome o (IsReason m wire)
+never_cut : (m : Method) (wire : List ℕ) (s : StreamState) (o : Option Reason) → (IsVerdict m wire false verdict.More → ⊥) → IfSome o (IsReason m wire)
     → IfSome o (IsCutWhereOpen s)
 never_cut m wire s None decided told = told
 never_cut m wire s (Some r) decided told = λ cut is. absurd (decided (subst (IsDefectAt m wire r.at) is told).1)

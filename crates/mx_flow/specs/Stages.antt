@@ -10,14 +10,14 @@ use Rattle.mx_flow.specs.Flows.{IsFlow, IsBodyOf, FlowValue, content_of}
 use Rattle.mx_flow.specs.Streams.{StreamValue, IsTaken}
 use Rattle.mx_flow.specs.declared.flow.BodyState.{BodyState}
 use Rattle.mx_flow.specs.declared.flow.BodyState.TheVariants as state
-use Rattle.mx_flow.specs.declared.stand.Stand.{Stand}
-use Rattle.mx_flow.specs.declared.stand.Stand.TheVariants as stand
+use Rattle.mx_flow.specs.declared.stream_state.StreamState.{StreamState}
+use Rattle.mx_flow.specs.declared.stream_state.StreamState.TheVariants as stand
 use Rattle.mx_flow.specs.declared.stage.KeptHeads.{KeptHeads}
 use Rattle.mx_flow.specs.declared.stage.Stage.{Stage}
 use Rattle.mx_flow.specs.declared.stage.Stage.TheVariants as stage
 
 -- the state of the bytes of a response, by that of its body's
-abbrev pub stand_of : BodyState → Stand
+abbrev pub stand_of : BodyState → StreamState
 stand_of state.More = stand.More
 stand_of state.Whole = stand.Whole
 stand_of state.Bad = stand.Fault code.RecvError
@@ -28,7 +28,7 @@ abbrev pub AreKept : KeptHeads → Type 0
 AreKept kept = HasHeadAt kept.bytes.items kept.head (length kept.bytes.items)
 
 -- bytes in which no final head has come
-abbrev pub headless : Method → ℕ → List ℕ → Stand → StreamValue
+abbrev pub headless : Method → ℕ → List ℕ → StreamState → StreamValue
 headless m limit bytes s = record { method = m; limit = limit; wire = bytes; heads = []; content = []; stand = s }
 
 -- what contracts see at each stage
@@ -71,7 +71,7 @@ pub record HasNoneKept (s : StreamValue) : Type 0 where
   pub heads : s.heads ≡ []
 
 -- the state of a body where the connection ends with it
-abbrev pub HasBodyEnd : FlowValue → Stand → Type 0
+abbrev pub HasBodyEnd : FlowValue → StreamState → Type 0
 HasBodyEnd f stand.More = ⊥
 HasBodyEnd f stand.Whole = IsBodyOf f.limit f.framing true f.came (content_of f)
 HasBodyEnd f (stand.Fault c) =

@@ -12,8 +12,8 @@ use Rattle.mx_body.specs.Causes.{cause_code, cause_line, Meets}
 use Rattle.mx_body.specs.Decision.{HasFinalHead, HasHeads, EndsTooSoon}
 use Rattle.mx_flow.specs.Flows.{IsOpen, IsBad, IsTooLarge, content_so_far}
 use Rattle.mx_flow.specs.Responses.{IsResponseOf, HasCome}
-use Rattle.mx_flow.specs.declared.stand.Stand.{Stand}
-use Rattle.mx_flow.specs.declared.stand.Stand.TheVariants as stand
+use Rattle.mx_flow.specs.declared.stream_state.StreamState.{StreamState}
+use Rattle.mx_flow.specs.declared.stream_state.StreamState.TheVariants as stand
 
 -- the most bytes of content of any response
 abbrev pub most_content : ℕ
@@ -71,10 +71,10 @@ pub record StreamValue : Type 0 where
   pub wire : List ℕ
   pub heads : List ℕ
   pub content : List ℕ
-  pub stand : Stand
+  pub stand : StreamState
 
 -- the state of the bytes
-abbrev pub HasStand : StreamValue → Stand → Type 0
+abbrev pub HasStand : StreamValue → StreamState → Type 0
 HasStand s stand.More = IsUndecidedOf s.limit s.method s.wire
 HasStand s stand.Whole = IsResponseOf s.limit s.method s.wire false s.content
 HasStand s (stand.Fault code) = IsHopelessOf s.limit s.method s.wire × IsFaultOf s.limit s.method s.wire code
@@ -114,7 +114,7 @@ IsNoneAtEnd s = (content : List ℕ) → ¬ (IsResponseOf s.limit s.method s.wir
 -- ended too soon, with the code of one that is held.
 --
 -- the state of the bytes where the connection ends with them
-abbrev pub HasEnd : StreamValue → Stand → Type 0
+abbrev pub HasEnd : StreamValue → StreamState → Type 0
 HasEnd s stand.More = ⊥
 HasEnd s stand.Whole = IsResponseOf s.limit s.method s.wire true s.content
 HasEnd s (stand.Fault code) = IsNoneAtEnd s × ((s.stand ≡ stand.Fault code) ⊎ ((s.stand ≡ stand.More) × EndsTooSoon s.wire code))
@@ -128,7 +128,7 @@ TellsKeeps bytes keeps =
 -- the bytes alone decide: two streams of one method and limit to which the same bytes came have the same heads, content and state
 abbrev pub HasOneStream : Type 0
 HasOneStream =
-    (m : Method) (limit : ℕ) (wire heads others content other : List ℕ) (s t : Stand)
+    (m : Method) (limit : ℕ) (wire heads others content other : List ℕ) (s t : StreamState)
     → IsStream (record { method = m; limit = limit; wire = wire; heads = heads; content = content; stand = s })
     → IsStream (record { method = m; limit = limit; wire = wire; heads = others; content = other; stand = t })
     → (heads ≡ others) × (content ≡ other) × (s ≡ t)

@@ -20,8 +20,8 @@ use Rattle.mx_flow.specs.Responses.{HasCome}
 use Rattle.mx_flow.specs.Steps.{most_counted}
 use Rattle.mx_flow.specs.Streams.{StreamValue, IsUndecidedOf}
 use Rattle.mx_flow.specs.declared.flow.BodyState.TheVariants as state
-use Rattle.mx_flow.specs.declared.stand.Stand.{Stand}
-use Rattle.mx_flow.specs.declared.stand.Stand.TheVariants as stand
+use Rattle.mx_flow.specs.declared.stream_state.StreamState.{StreamState}
+use Rattle.mx_flow.specs.declared.stream_state.StreamState.TheVariants as stand
 
 -- the last of the bytes of a chunked body belongs to this part of one
 pub record BreaksIn (limit : ℕ) (came : List ℕ) (fault : Fault) : Type 0 where
@@ -72,7 +72,7 @@ abbrev pub TellsWhy : ℕ → Method → List ℕ → Reason → Type 0
 TellsWhy limit m wire reason = IsOfHeads m wire reason ⊎ BreaksChunks limit m wire reason ⊎ IsCutOff limit m wire reason
 
 -- the reason says where the bytes end only where nothing is decided
-abbrev pub IsCutWhereOpen : Stand → Reason → Type 0
+abbrev pub IsCutWhereOpen : StreamState → Reason → Type 0
 IsCutWhereOpen s reason = (told : Cut) → reason.what ≡ what.Cut told → s ≡ stand.More
 
 -- none is told: the bytes begin with a whole response, or are one, or the body is too large, or there are more bytes than are counted

@@ -10,9 +10,9 @@ mod flow;
 pub mod laws;
 mod place;
 mod stage;
-mod stand;
 mod stream;
+mod stream_state;
 
 pub use crate::flow::{BodyState, Flow};
-pub use crate::stand::Stand;
 pub use crate::stream::Stream;
+pub use crate::stream_state::StreamState;

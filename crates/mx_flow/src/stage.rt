@@ -11,10 +11,10 @@ ghost use Rattle.mx_flow.specs.declared.stage.Stage.TheVariants as stages;
 ghost use Rattle.mx_flow.specs.Steps.{most_counted};
 ghost use Rattle.mx_flow.specs.Whys.{HasDefect, HasNoWhy, IsCutWhereOpen, TellsWhy};
 ghost use Rattle.mx_flow.specs.declared.flow.BodyState.TheVariants as body;
-ghost use Rattle.mx_flow.specs.declared.stand.Stand.TheVariants as stand;
+ghost use Rattle.mx_flow.specs.declared.stream_state.StreamState.TheVariants as stand;
 
 use crate::flow::{BodyState, Flow};
-use crate::stand::{Stand, stand_of};
+use crate::stream_state::{StreamState, stand_of};
 use mx_body::{FinalStep, Heads};
 use mx_head::{Framing, Head, framing};
 use mx_reason::{Reason, reason_of};
@@ -237,14 +237,14 @@ pub(crate) fn why_of(alloc: Global, method: Method, limit: u64, stage: &Stage) -
 
 // rule body-stream-end
 /// The state of a body where the connection ends with it.
-pub(crate) fn end_body(flow: &Flow) -> Stand
+pub(crate) fn end_body(flow: &Flow) -> StreamState
     ensures { HasBodyEnd flow.now result }
 {
     if flow.is_whole_at_end() {
-        return Stand::Whole;
+        return StreamState::Whole;
     }
     match flow.state() {
-        BodyState::More => Stand::Fault(Code::PartialFile),
+        BodyState::More => StreamState::Fault(Code::PartialFile),
         state => stand_of(state),
     }
 }

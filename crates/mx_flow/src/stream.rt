@@ -5,10 +5,10 @@ ghost use Rattle.mx_body.specs.Decision.{HasStatus, HasLocation, TellsLocation, 
 ghost use Rattle.mx_flow.specs.Streams.{limit_of, first_stream, IsStream, IsTaken, IsPrefixOfEach, HasEnd, IsNoneAtEnd, TellsKeeps};
 ghost use Rattle.mx_flow.specs.Stages.{HasKept, HasNoneKept};
 ghost use Rattle.mx_flow.specs.Whys.{HasNoWhy, IsCutWhereOpen, TellsWhy};
-ghost use Rattle.mx_flow.specs.declared.stand.Stand.TheVariants as stand;
+ghost use Rattle.mx_flow.specs.declared.stream_state.StreamState.TheVariants as stand;
 
 use crate::stage::{KeptHeads, Stage, end_body, feed_stage, why_of};
-use crate::stand::{Stand, stand_of};
+use crate::stream_state::{StreamState, stand_of};
 use mx_body::{Heads, Part, place_of};
 use mx_head::keeps;
 use mx_reason::Reason;
@@ -82,14 +82,14 @@ impl Stream {
     }
 
     /// The state of the bytes that came.
-    pub fn stand(&self) -> Stand
+    pub fn stand(&self) -> StreamState
         ensures stand { result ≡ self.now.stand }
         ensures exact { IsStream self.now }
     {
         match &self.stage {
-            Stage::Heads(_) => Stand::More,
-            Stage::BadHeads(_, code) => Stand::Fault(*code),
-            Stage::BadFraming(_, code) => Stand::Fault(*code),
+            Stage::Heads(_) => StreamState::More,
+            Stage::BadHeads(_, code) => StreamState::Fault(*code),
+            Stage::BadFraming(_, code) => StreamState::Fault(*code),
             Stage::Body(_, flow) => stand_of(flow.state()),
         }
     }
@@ -112,7 +112,11 @@ impl Stream {
     /// whole piece. Once it has decided it takes none.
     ///
     /// `OutOfMemory` leaves both as they were. It never comes once it has decided, nor where the piece is empty.
-    pub fn feed(&mut self, piece: &[u8], out: &mut Vec<u8>) -> Result<(Stand, usize), OutOfMemory>
+    pub fn feed(
+        &mut self,
+        piece: &[u8],
+        out: &mut Vec<u8>,
+    ) -> Result<(StreamState, usize), OutOfMemory>
         ensures over { self.old.stand ≢ stand.More → (self.new ≡ self.old) × (result ≡ Ok (self.old.stand, 0)) }
         ensures taken { IfOk result (λ r. IsTaken self.old self.new r.1 piece.now out.old.items out.new.items) }
         ensures stand { IfOk result (λ r. r.0 ≡ self.new.stand) }
@@ -121,11 +125,11 @@ impl Stream {
         ensures refused { OnErr result ((self.new ≡ self.old) × (out.new.items ≡ out.old.items)) }
     {
         let stand = self.stand();
-        if stand != Stand::More {
+        if stand != StreamState::More {
             return Ok((stand, 0));
         }
         if piece.is_empty() {
-            return Ok((Stand::More, 0));
+            return Ok((StreamState::More, 0));
         }
         let taken = self.take(piece, out)?;
         Ok((self.stand(), taken))
@@ -159,24 +163,24 @@ impl Stream {
 
     // rule body-stream-end
     // The state of the bytes that came where the connection ends with them.
-    fn end_state(&self) -> Stand
+    fn end_state(&self) -> StreamState
         ensures { HasEnd self.now result }
     {
         match &self.stage {
             Stage::Heads(heads) => if heads.as_slice().is_empty() {
-                Stand::Fault(Code::GotNothing)
+                StreamState::Fault(Code::GotNothing)
             } else {
-                Stand::Fault(Code::WeirdServerReply)
+                StreamState::Fault(Code::WeirdServerReply)
             },
-            Stage::BadHeads(_, code) => Stand::Fault(*code),
-            Stage::BadFraming(_, code) => Stand::Fault(*code),
+            Stage::BadHeads(_, code) => StreamState::Fault(*code),
+            Stage::BadFraming(_, code) => StreamState::Fault(*code),
             Stage::Body(_, flow) => end_body(flow),
         }
     }
 
     /// The state of the bytes that came where the connection ends with them: a whole response, or a fault. Bytes that end too soon are
     /// `GotNothing` without a byte, `WeirdServerReply` before the end of the final head, and `PartialFile` after it.
-    pub fn end(&self) -> Stand
+    pub fn end(&self) -> StreamState
         ensures end { HasEnd self.now result }
         ensures decides { result ≢ stand.More }
         ensures none { result ≢ stand.Whole → IsNoneAtEnd self.now }

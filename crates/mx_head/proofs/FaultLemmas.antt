@@ -10,8 +10,8 @@ use Rattle.httparse.specs.Pieces.{is_newline}
 use Rattle.httparse.proofs.GrammarLemmas.{response_unique}
 use Rattle.httparse.proofs.PieceLemmas.{token_is_no_newline}
 use Rattle.mx_head.specs.declared.lines.Place.{Place}
-use Rattle.mx_head.specs.declared.lines.Kind.{Kind}
-use Rattle.mx_head.specs.declared.lines.Kind.TheVariants.{Fresh, Return, Text}
+use Rattle.mx_head.specs.declared.lines.LineKind.{LineKind}
+use Rattle.mx_head.specs.declared.lines.LineKind.TheVariants.{Fresh, Return, Text}
 use Rattle.mx_head.specs.Heads.{ReadsHead}
 use Rattle.mx_head.specs.Faults.{many_fields, never_head, long_head, HasAllFields, HasManyFields, MeetsAtHead, MeetsNothing}
 use Rattle.mx_head.specs.Lines.{place_by, scan, start, IsFull, HasFieldPast}
@@ -48,7 +48,7 @@ return_fills_none : (p : Place) (front : List ℕ) → (scan p (front ++ 13 ∷ 
 return_fills_none p front =
     omega (arith, ap (λ (q : Place). q.lines) (scan-append p front (13 ∷ [])), step (scan p front).kind (scan p front).lines)
   where
-    step : (k : Kind) (n : ℕ) → (place_by k n 13).lines ≤ n
+    step : (k : LineKind) (n : ℕ) → (place_by k n 13).lines ≤ n
     step Fresh n = omega arith
     step Return n = omega arith
     step Text n = omega arith

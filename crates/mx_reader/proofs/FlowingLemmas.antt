@@ -17,8 +17,8 @@ use Rattle.mx_flow.specs.Flows.{IsBodyOf}
 use Rattle.mx_flow.specs.Responses.{IsResponseOf}
 use Rattle.mx_flow.specs.Streams.{StreamValue, IsStream, HasStand, HasEnd, IsUndecidedOf, TellsKeeps}
 use Rattle.mx_flow.specs.Streams as flow
-use Rattle.mx_flow.specs.declared.stand.Stand as flow_stand
-use Rattle.mx_flow.specs.declared.stand.Stand.TheVariants as state
+use Rattle.mx_flow.specs.declared.stream_state.StreamState as flow_stand
+use Rattle.mx_flow.specs.declared.stream_state.StreamState.TheVariants as state
 use Rattle.mx_flow.proofs.LawProofs.{cut_at_end}
 use Rattle.mx_flow.proofs.ResponseProofs.{body_of}
 use Rattle.mx_reader.specs.Judgements.{StandsSo}
@@ -73,10 +73,10 @@ whole_keeps limit m bytes content keep r (inr k) = absurd (k.0 (r.interim, r.hea
 
 module _ (s : StreamValue) (is : IsStream s) (behind : List ℕ) (none_behind : s.stand ≡ state.More → behind ≡ []) where
   -- the judgement before the end is that on all the bytes
-  pub before_end : (at : flow_stand.Stand) (keep : Bool) → s.stand ≡ at → KeepsBy s at keep → IsReader (flowing s behind (stand_by at) false keep)
+  pub before_end : (at : flow_stand.StreamState) (keep : Bool) → s.stand ≡ at → KeepsBy s at keep → IsReader (flowing s behind (stand_by at) false keep)
   before_end at keep e k = record { judged = (refl, by_stand at (subst (HasStand s) e is.stand) e k); keeps = heads_behind s is behind none_behind }
     where
-      by_stand : (at : flow_stand.Stand) → HasStand s at → s.stand ≡ at → KeepsBy s at keep
+      by_stand : (at : flow_stand.StreamState) → HasStand s at → s.stand ≡ at → KeepsBy s at keep
           → StandsSo s.limit s.method (s.wire ++ behind) false ((flowing s behind (stand_by at) false keep).judgement) (stand_by at)
       by_stand state.More h e k =
           let all : s.wire ≡ s.wire ++ behind = sym (ap (λ (t : List ℕ). s.wire ++ t) (none_behind e) ∙ append-nil s.wire) in (
@@ -104,7 +104,7 @@ module _ (s : StreamValue) (is : IsStream s) (behind : List ℕ) (none_behind : 
       )
 
   -- and so is the judgement with the end
-  pub with_end : (at : flow_stand.Stand) → s.stand ≡ state.More → HasEnd s at → IsReader (flowing s behind (stand_by at) true false)
+  pub with_end : (at : flow_stand.StreamState) → s.stand ≡ state.More → HasEnd s at → IsReader (flowing s behind (stand_by at) true false)
   with_end at more end = record { judged = (refl, by_stand at end); keeps = heads_behind s is behind none_behind }
     where
       all : s.wire ≡ s.wire ++ behind
@@ -117,7 +117,7 @@ module _ (s : StreamValue) (is : IsStream s) (behind : List ℕ) (none_behind : 
       by_code code (inl e) = let both : state.More ≡ state.Fault code = sym more ∙ e in absurd (cc)
       by_code code (inr e) = e.1
 
-      by_stand : (at : flow_stand.Stand) → HasEnd s at → StandsSo s.limit s.method (s.wire ++ behind) true ((flowing s behind (stand_by at) true false).judgement) (stand_by at)
+      by_stand : (at : flow_stand.StreamState) → HasEnd s at → StandsSo s.limit s.method (s.wire ++ behind) true ((flowing s behind (stand_by at) true false).judgement) (stand_by at)
       by_stand state.More h = absurd h
       by_stand state.Whole h = record {
         left = behind;

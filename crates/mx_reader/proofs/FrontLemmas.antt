@@ -19,8 +19,8 @@ use Rattle.mx_body.proofs.ResponseLemmas.{same_split}
 use Rattle.mx_flow.specs.Data.{data_from}
 use Rattle.mx_flow.specs.Flows.{IsFramed, IsOpen}
 use Rattle.mx_flow.specs.Streams.{IsUndecidedOf, IsFaultOf, HasContent, HasStand, StreamValue}
-use Rattle.mx_flow.specs.declared.stand.Stand.{Stand}
-use Rattle.mx_flow.specs.declared.stand.Stand.TheVariants as stand
+use Rattle.mx_flow.specs.declared.stream_state.StreamState.{StreamState}
+use Rattle.mx_flow.specs.declared.stream_state.StreamState.TheVariants as stand
 use Rattle.mx_flow.proofs.DataLemmas.{data_from-append}
 use Rattle.mx_flow.proofs.OneStreamProofs.{one_stream}
 use Rattle.mx_flow.proofs.StreamProofs.{heads_alone}
@@ -89,7 +89,7 @@ undecided_front limit m a b (inr u) =
     ]
 
 -- the heads of bytes by their state
-heads_by : (s : StreamValue) (at : Stand) → HasStand s at → (heads : List ℕ) × HasHeads s.wire heads
+heads_by : (s : StreamValue) (at : StreamState) → HasStand s at → (heads : List ℕ) × HasHeads s.wire heads
 heads_by s stand.More (inl u) = ([], inr (u.0, refl))
 heads_by s stand.More (inr u) = (_, inl (u.2.interim, u.2.head, u.1, u.2.stands, refl))
 heads_by s stand.Whole r = (_, inl (r.interim, r.head, r.body, r.stands, refl))
@@ -101,8 +101,8 @@ heads_by s (stand.Fault code) f = by_fault f.1
     by_fault (inr (inr x)) = (_, inl (x.2.interim, x.2.head, x.1, x.2.stands, refl))
 
 -- the bytes decide their state and their content
-module _ (m : Method) (limit : ℕ) (wire content other : List ℕ) (s t : Stand) where
-  abbrev pub valued : List ℕ → List ℕ → Stand → StreamValue
+module _ (m : Method) (limit : ℕ) (wire content other : List ℕ) (s t : StreamState) where
+  abbrev pub valued : List ℕ → List ℕ → StreamState → StreamValue
   valued heads x at = record { method = m; limit = limit; wire = wire; heads = heads; content = x; stand = at }
 
   pub one_state : HasContent limit m wire content → HasContent limit m wire other → HasStand (valued [] content s) s → HasStand (valued [] other t) t → (content ≡ other) × (s ≡ t)
@@ -111,7 +111,7 @@ module _ (m : Method) (limit : ℕ) (wire content other : List ℕ) (s t : Stand
       let one = one_stream m limit wire heads.0 heads.0 content other s t (record { heads = heads.1; content = x; stand = by s content a }) (record { heads = heads.1; content = y; stand = by t other b }) in
       (one.1, one.2)
     where
-      by : (at : Stand) (x : List ℕ) → HasStand (valued [] x at) at → HasStand (valued (heads_by (valued [] content s) s a).0 x at) at
+      by : (at : StreamState) (x : List ℕ) → HasStand (valued [] x at) at → HasStand (valued (heads_by (valued [] content s) s a).0 x at) at
       by stand.More x h = h
       by stand.Whole x h = h
       by (stand.Fault c) x h = h

@@ -17,8 +17,8 @@ use Rattle.mx_body.specs.Decision.{HasFinalHead, HasHeads, HasStatus, TellsLocat
 use Rattle.mx_body.proofs.HeadsLemmas.{body_stands, body_start_small}
 use Rattle.mx_body.proofs.ResponseLemmas.{response_meets_nothing}
 use Rattle.mx_flow.specs.Streams.{IsFaultOf, StreamValue, HasStand, IsStream}
-use Rattle.mx_flow.specs.declared.stand.Stand.{Stand}
-use Rattle.mx_flow.specs.declared.stand.Stand.TheVariants as stand
+use Rattle.mx_flow.specs.declared.stream_state.StreamState.{StreamState}
+use Rattle.mx_flow.specs.declared.stream_state.StreamState.TheVariants as stand
 use Rattle.mx_flow.proofs.StreamProofs.{heads_alone, final_in_front}
 
 -- the response to HEAD has no body
@@ -72,7 +72,7 @@ module _ (s : StreamValue) (is : IsStream s) (behind : List ℕ) (none_behind : 
       by_fault code (inr (inl x)) = (x.0, x.1, [], x.2)
       by_fault code (inr (inr x)) = (x.2.interim, x.2.head, x.1, x.2.stands)
 
-      by_stand : (at : Stand) → s.stand ≡ at → HasStand s at → HasFinalHead s.wire
+      by_stand : (at : StreamState) → s.stand ≡ at → HasStand s at → HasFinalHead s.wire
       by_stand stand.More e h = subst HasFinalHead (ap (λ (t : List ℕ). s.wire ++ t) (none_behind e) ∙ append-nil s.wire) f
       by_stand stand.Whole e h = (h.interim, h.head, h.body, h.stands)
       by_stand (stand.Fault code) e h = by_fault code h.1

@@ -12,7 +12,7 @@ use Rattle.mx_flow.specs.Streams.{IsUndecidedOf}
 use Rattle.mx_reader.specs.Judgements.{Judgement, StandsSo}
 use Rattle.mx_reader.specs.Laws.{MoreIsUndecided}
 use Rattle.mx_reader.specs.Readers.{IsReader}
-use Rattle.mx_reader.specs.Kinds.{held}
+use Rattle.mx_reader.specs.Modes.{held}
 
 pub held_is : (d : Decoded) → IsExact d → IsReader (held d)
 held_is d exact = record { judged = (d.verdict, exact, refl); keeps = refl }

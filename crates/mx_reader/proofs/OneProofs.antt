@@ -26,7 +26,7 @@ use Rattle.mx_body.proofs.ResponseLemmas.{close_or_not}
 use Rattle.mx_flow.specs.Flows.{IsFramed, IsOpen, IsOpenBefore, IsTooLarge}
 use Rattle.mx_flow.specs.Responses.{IsResponseOf, HasCome}
 use Rattle.mx_flow.specs.Streams.{IsUndecidedOf, IsHopelessOf, IsFaultOf, HasContent}
-use Rattle.mx_flow.specs.declared.stand.Stand.TheVariants as state
+use Rattle.mx_flow.specs.declared.stream_state.StreamState.TheVariants as state
 use Rattle.mx_flow.proofs.ResponseProofs.{all_of_one}
 use Rattle.mx_reader.specs.Judgements.{Judgement, judgement_of, StandsSo, BeginsWithResponseOf, HasWhole, BeginsWithFault, EndsWithFault, HasMore, HasNoEnd}
 use Rattle.mx_reader.specs.Laws.{HasOneJudgement}

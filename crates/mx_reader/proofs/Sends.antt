@@ -7,7 +7,7 @@ use Rattle.mx_body.proofs.decoder.Decoder.TheSendSync.{the_send as decoder_send}
 use Rattle.mx_flow.proofs.Sends.{stream_send}
 use Rattle.mx_reader.specs.contracts.flowing.FlowingReader as Flowing
 use Rattle.mx_reader.specs.contracts.flowing.FlowingReader.TheInside as FlowingInside
-use Rattle.mx_reader.specs.contracts.reader.Kind as Kind
+use Rattle.mx_reader.specs.contracts.reader.Mode as Mode
 use Rattle.mx_reader.specs.contracts.reader.Reader as Reader
 use Rattle.mx_reader.specs.contracts.reader.Reader.TheInside as Inside
 
@@ -19,11 +19,11 @@ flowing_send =
     let a = flowing_inside in
     search (sendable) depth 40 fits 20000
 
-kind_send : IsSend Kind.the_field.row
-kind_send = enum_send (enum_shape Kind.the_type) ((decoder_send, tt), ((flowing_send, tt), tt))
+mode_send : IsSend Mode.the_field.row
+mode_send = enum_send (enum_shape Mode.the_type) ((decoder_send, tt), ((flowing_send, tt), tt))
 
 inside : IsSend Inside.the_field.row
-inside = struct_send (shape Inside.the_type) (kind_send, tt)
+inside = struct_send (shape Inside.the_type) (mode_send, tt)
 
 pub reader_send : IsSend Reader.the_row
 reader_send =

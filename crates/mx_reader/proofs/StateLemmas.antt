@@ -7,20 +7,20 @@ use Rattle.mx_types.specs.declared.method.Method.{Method}
 use Rattle.mx_body.specs.declared.decoder.Stand.{Stand}
 use Rattle.mx_body.specs.declared.decoder.Stand.TheVariants as stand
 use Rattle.mx_flow.specs.Streams.{StreamValue, IsStream, IsTaken, HasEnd, first_stream}
-use Rattle.mx_flow.specs.declared.stand.Stand as flow_stand
-use Rattle.mx_flow.specs.declared.stand.Stand.TheVariants as state
+use Rattle.mx_flow.specs.declared.stream_state.StreamState as flow_stand
+use Rattle.mx_flow.specs.declared.stream_state.StreamState.TheVariants as state
 use Rattle.mx_reader.specs.Readers.{IsReader, most_counted, HandsOn, IsFedBy}
 use Rattle.mx_reader.specs.Flowing.{stand_by, KeepsBy, flowing, IsFlowing}
 use Rattle.mx_reader.proofs.FlowingLemmas.{before_end, with_end}
 
 -- the states agree on whether more is to come
-more_by : (at : flow_stand.Stand) → stand_by at ≡ stand.More → at ≡ state.More
+more_by : (at : flow_stand.StreamState) → stand_by at ≡ stand.More → at ≡ state.More
 more_by state.More e = refl
 more_by state.Whole e = let both : stand.Complete ≡ stand.More = e in absurd (cc)
 more_by (state.Fault c) e = let both : stand.Fault c ≡ stand.More = e in absurd (cc)
 
-unkept_by : (s : StreamValue) (at : flow_stand.Stand) (keep : Bool) → at ≡ state.More → KeepsBy s at keep → keep ≡ false
-unkept_by s at keep e k = subst (λ (a : flow_stand.Stand). KeepsBy s a keep) e k
+unkept_by : (s : StreamValue) (at : flow_stand.StreamState) (keep : Bool) → at ≡ state.More → KeepsBy s at keep → keep ≡ false
+unkept_by s at keep e k = subst (λ (a : flow_stand.StreamState). KeepsBy s a keep) e k
 
 pub first_is : (s : StreamValue) (m : Method) (limit : ℕ) (behind : List ℕ) → IsStream s → s ≡ first_stream m limit → behind ≡ []
     → IsFlowing s behind stand.More false false true 0
@@ -36,7 +36,7 @@ first_is s m limit behind is first none =
     }
 
 module _ (old new : StreamValue) (behind now piece before after : List ℕ) (n : ℕ) (ended keep is_all : Bool) (fed next : ℕ) where
-  pub fed_so : (was at : Stand) (kept : Bool) (by : flow_stand.Stand) → IsFlowing old behind was ended keep is_all fed → was ≡ stand.More → IsStream new
+  pub fed_so : (was at : Stand) (kept : Bool) (by : flow_stand.StreamState) → IsFlowing old behind was ended keep is_all fed → was ≡ stand.More → IsStream new
       → IsTaken old new n piece before after → now ≡ behind ++ drop n piece → by ≡ new.stand → KeepsBy new by kept → at ≡ stand_by by
       → next ≡ min (fed + length piece) most_counted → IsFlowing new now at ended kept (nat_eq n (length piece)) next
   fed_so was at kept by flow more is taken now_is by_is keeps at_is next_is =
@@ -86,7 +86,7 @@ module _ (old new : StreamValue) (behind piece : List ℕ) (ended keep is_all : 
   none_dropped : behind ≡ behind ++ drop (length piece) piece
   none_dropped = sym (ap (λ (t : List ℕ). behind ++ t) (drop_all (length piece) piece (omega arith)) ∙ append-nil behind)
 
-  pub passed_so : (by : flow_stand.Stand) → IsFlowing old behind was ended keep is_all fed → was ≡ stand.More → IsStream new
+  pub passed_so : (by : flow_stand.StreamState) → IsFlowing old behind was ended keep is_all fed → was ≡ stand.More → IsStream new
       → IsTaken old new (length piece) piece [] piece → by ≡ new.stand → KeepsBy new by kept → at ≡ stand_by by
       → next ≡ min (fed + length piece) most_counted → IsFlowing new behind at ended kept true next
   passed_so by flow more is taken by_is keeps at_is next_is =
@@ -100,7 +100,7 @@ module _ (old new : StreamValue) (behind piece : List ℕ) (ended keep is_all : 
   passed_content taken = taken.grown ∙ ap (λ (t : List ℕ). old.content ++ t) (sym taken.handed)
 
 module _ (s : StreamValue) (behind : List ℕ) (ended keep is_all : Bool) (fed : ℕ) where
-  pub ended_so : (was at : Stand) (by : flow_stand.Stand) → IsFlowing s behind was ended keep is_all fed → was ≡ stand.More → IsStream s → HasEnd s by → by ≢ state.More
+  pub ended_so : (was at : Stand) (by : flow_stand.StreamState) → IsFlowing s behind was ended keep is_all fed → was ≡ stand.More → IsStream s → HasEnd s by → by ≢ state.More
       → at ≡ stand_by by → IsFlowing s behind at true keep is_all fed
   ended_so was at by flow more is end decides at_is =
       let going = flow.goes_on more in

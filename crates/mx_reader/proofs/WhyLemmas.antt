@@ -4,7 +4,7 @@ use Rattle.std.specs.Prelude.{Option, Some, None, IfSome}
 use Rattle.mx_body.specs.declared.decoder.Stand.{Stand}
 use Rattle.mx_flow.specs.Streams.{StreamValue, HasStand, IsStream}
 use Rattle.mx_flow.specs.Whys.{HasNoWhy, IsCutWhereOpen, TellsWhy}
-use Rattle.mx_flow.specs.declared.stand.Stand.TheVariants as state
+use Rattle.mx_flow.specs.declared.stream_state.StreamState.TheVariants as state
 use Rattle.mx_reason.specs.declared.reason.Reason.{Reason}
 use Rattle.mx_reader.specs.Flowing.{flowing}
 use Rattle.mx_reader.specs.Whys.{HasNoReason, IsReasonOf, TellsNone}

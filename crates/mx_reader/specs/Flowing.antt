@@ -3,12 +3,12 @@ use Rattle.std.specs.Prelude.{◌≡◌, ℕ, ◌+◌, ◌↔◌, min, Bool, tru
 use Rattle.mx_body.specs.declared.decoder.Stand.{Stand}
 use Rattle.mx_body.specs.declared.decoder.Stand.TheVariants as stand
 use Rattle.mx_flow.specs.Streams.{StreamValue, TellsKeeps}
-use Rattle.mx_flow.specs.declared.stand.Stand as flow
-use Rattle.mx_flow.specs.declared.stand.Stand.TheVariants as state
+use Rattle.mx_flow.specs.declared.stream_state.StreamState as flow
+use Rattle.mx_flow.specs.declared.stream_state.StreamState.TheVariants as state
 use Rattle.mx_reader.specs.Readers.{ReaderValue, IsReader, most_counted}
 
 -- the state of a stream's bytes, as that of a decoder's
-abbrev pub stand_by : flow.Stand → Stand
+abbrev pub stand_by : flow.StreamState → Stand
 stand_by state.More = stand.More
 stand_by state.Whole = stand.Complete
 stand_by (state.Fault c) = stand.Fault c
@@ -20,7 +20,7 @@ len_by stand.Complete wire = length wire
 len_by (stand.Fault c) wire = 0
 
 -- whether the connection may serve another request, where the bytes that came have this state before the connection ends
-abbrev pub KeepsBy : StreamValue → flow.Stand → Bool → Type 0
+abbrev pub KeepsBy : StreamValue → flow.StreamState → Bool → Type 0
 KeepsBy s state.More keep = keep ≡ false
 KeepsBy s state.Whole keep = TellsKeeps s.wire keep
 KeepsBy s (state.Fault c) keep = keep ≡ false

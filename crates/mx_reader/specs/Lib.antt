@@ -5,4 +5,4 @@ pub mod Whys
 pub mod Laws
 -- Private: what the private functions promise one another.
 pub mod Flowing
-pub mod Kinds
+pub mod Modes

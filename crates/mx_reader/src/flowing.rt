@@ -11,7 +11,7 @@ ghost use Rattle.mx_reader.specs.Flowing.{KeepsBy, stand_by};
 ghost use Rattle.mx_reader.specs.Whys.{IsReasonOf, HasNoReason};
 
 use mx_body::{Part, Stand};
-use mx_flow::{Stand as StreamStand, Stream};
+use mx_flow::{Stream, StreamState};
 use mx_reason::Reason;
 use mx_types::{History, Method, OutOfMemory};
 use std::alloc::Global;
@@ -63,24 +63,24 @@ impl Model for FlowingReader {
 }
 
 // The state of the bytes of a stream, as that of a decoder.
-fn stand_by(stand: StreamStand) -> Stand
+fn stand_by(stand: StreamState) -> Stand
     ensures { result ≡ stand_by stand }
 {
     match stand {
-        StreamStand::More => Stand::More,
-        StreamStand::Whole => Stand::Complete,
-        StreamStand::Fault(code) => Stand::Fault(code),
+        StreamState::More => Stand::More,
+        StreamState::Whole => Stand::Complete,
+        StreamState::Fault(code) => Stand::Fault(code),
     }
 }
 
 // Whether the connection may serve another request, where the bytes have this state before it ends.
-fn keeps_by(stream: &Stream, stand: StreamStand) -> bool
+fn keeps_by(stream: &Stream, stand: StreamState) -> bool
     ensures { KeepsBy stream.now stand result }
 {
     match stand {
-        StreamStand::More => false,
-        StreamStand::Whole => stream.keeps(),
-        StreamStand::Fault(_) => false,
+        StreamState::More => false,
+        StreamState::Whole => stream.keeps(),
+        StreamState::Fault(_) => false,
     }
 }
 

@@ -18,7 +18,7 @@ use std::alloc::Global;
 use std::marker::Model;
 
 /// How the bytes are read.
-pub(crate) enum Kind {
+pub(crate) enum Mode {
     /// All are kept.
     Held(Decoder),
     /// The content is handed on.
@@ -31,27 +31,27 @@ pub(crate) enum Kind {
 ///
 /// Once it has decided it takes no more: each further call changes nothing and answers the same.
 pub struct Reader {
-    kind: Kind,
+    mode: Mode,
 }
 
 // Written out, and not derived: a crate that drops a reader cites its proof.
 impl Drop for Reader {
     fn drop(self) {
-        let Reader { kind } = self;
-        match kind {
-            Kind::Held(decoder) => drop(decoder),
-            Kind::Flowing(reader) => drop(reader),
+        let Reader { mode } = self;
+        match mode {
+            Mode::Held(decoder) => drop(decoder),
+            Mode::Flowing(reader) => drop(reader),
         }
     }
 }
 
 impl Model for Reader {
     ghost use Rattle.mx_reader.specs.Readers.{ReaderValue};
-    ghost use Rattle.mx_reader.specs.Kinds.{value_of};
+    ghost use Rattle.mx_reader.specs.Modes.{value_of};
 
     ghost Value = { ReaderValue };
 
-    ghost view = { λ r. value_of r.kind };
+    ghost view = { λ r. value_of r.mode };
 }
 
 impl Reader {
@@ -61,7 +61,7 @@ impl Reader {
         ensures exact { IsReader result }
     {
         Reader {
-            kind: Kind::Held(Decoder::new(alloc, method)),
+            mode: Mode::Held(Decoder::new(alloc, method)),
         }
     }
 
@@ -72,7 +72,7 @@ impl Reader {
         ensures exact { IsReader result }
     {
         Reader {
-            kind: Kind::Flowing(FlowingReader::new(alloc, method, most_bytes)),
+            mode: Mode::Flowing(FlowingReader::new(alloc, method, most_bytes)),
         }
     }
 
@@ -81,9 +81,9 @@ impl Reader {
         ensures stand { result ≡ self.now.judgement.stand }
         ensures exact { IsReader self.now }
     {
-        match &self.kind {
-            Kind::Held(decoder) => decoder.stand(),
-            Kind::Flowing(reader) => reader.stand(),
+        match &self.mode {
+            Mode::Held(decoder) => decoder.stand(),
+            Mode::Flowing(reader) => reader.stand(),
         }
     }
 
@@ -102,17 +102,17 @@ impl Reader {
         ensures memory { OnErr result (piece.now ≢ []) }
         ensures refused { OnErr result ((self.new ≡ self.old) × (out.new.items ≡ out.old.items)) }
     {
-        match &mut self.kind {
-            Kind::Held(decoder) => decoder.feed(piece),
-            Kind::Flowing(reader) => reader.feed(piece, out),
+        match &mut self.mode {
+            Mode::Held(decoder) => decoder.feed(piece),
+            Mode::Flowing(reader) => reader.feed(piece, out),
         }
     }
 
     /// A guess, for speed alone, which no contract rests on: whether [`pass`](Reader::pass) is worth a try.
     pub fn is_plain(&self) -> bool {
-        match &self.kind {
-            Kind::Held(_) => false,
-            Kind::Flowing(reader) => reader.is_plain(),
+        match &self.mode {
+            Mode::Held(_) => false,
+            Mode::Flowing(reader) => reader.is_plain(),
         }
     }
 
@@ -126,13 +126,13 @@ impl Reader {
         ensures exact { IsReader self.new }
         ensures same { result ≡ false → self.new ≡ self.old }
     {
-        match &mut self.kind {
-            Kind::Held(decoder) => {
+        match &mut self.mode {
+            Mode::Held(decoder) => {
                 // proof: the verdict is that on the bytes
                 let _stand = decoder.stand();
                 false
             }
-            Kind::Flowing(reader) => reader.pass(piece),
+            Mode::Flowing(reader) => reader.pass(piece),
         }
     }
 
@@ -150,9 +150,9 @@ impl Reader {
         ensures memory { OnErr result ((self.old.limit ≡ None) × BeginsWithParts self.old.method self.old.wire true) }
         ensures refused { OnErr result (self.new ≡ self.old) }
     {
-        match &mut self.kind {
-            Kind::Held(decoder) => decoder.end(),
-            Kind::Flowing(reader) => Ok(reader.end()),
+        match &mut self.mode {
+            Mode::Held(decoder) => decoder.end(),
+            Mode::Flowing(reader) => Ok(reader.end()),
         }
     }
 
@@ -161,9 +161,9 @@ impl Reader {
     pub fn received(&self) -> u64
         ensures { result ≡ min (length self.now.wire) most_counted }
     {
-        match &self.kind {
-            Kind::Held(decoder) => decoder.wire().len() as u64,
-            Kind::Flowing(reader) => reader.received(),
+        match &self.mode {
+            Mode::Held(decoder) => decoder.wire().len() as u64,
+            Mode::Flowing(reader) => reader.received(),
         }
     }
 
@@ -171,9 +171,9 @@ impl Reader {
     pub fn is_unfed(&self) -> bool
         ensures { IsTrue result ↔ (self.now.wire ≡ []) }
     {
-        match &self.kind {
-            Kind::Held(decoder) => decoder.wire().is_empty(),
-            Kind::Flowing(reader) => reader.is_unfed(),
+        match &self.mode {
+            Mode::Held(decoder) => decoder.wire().is_empty(),
+            Mode::Flowing(reader) => reader.is_unfed(),
         }
     }
 
@@ -181,9 +181,9 @@ impl Reader {
     pub fn may_keep(&self) -> bool
         ensures { result ≡ spec.may_keep self.now.judgement self.now.wire }
     {
-        match &self.kind {
-            Kind::Held(decoder) => decoder.keep() && decoder.len() == decoder.wire().len(),
-            Kind::Flowing(reader) => reader.may_keep(),
+        match &self.mode {
+            Mode::Held(decoder) => decoder.keep() && decoder.len() == decoder.wire().len(),
+            Mode::Flowing(reader) => reader.may_keep(),
         }
     }
 
@@ -191,9 +191,9 @@ impl Reader {
     pub fn status(&self) -> u16
         ensures { HasStatus self.now.wire result }
     {
-        match &self.kind {
-            Kind::Held(decoder) => decoder.status(),
-            Kind::Flowing(reader) => reader.status(),
+        match &self.mode {
+            Mode::Held(decoder) => decoder.status(),
+            Mode::Flowing(reader) => reader.status(),
         }
     }
 
@@ -203,9 +203,9 @@ impl Reader {
         ensures bytes { TellsLocation self.now.wire (bytes_at self.now.kept result) }
         ensures within { IsPlaceIn (length self.now.kept) result }
     {
-        match &self.kind {
-            Kind::Held(decoder) => decoder.location(),
-            Kind::Flowing(reader) => reader.location(),
+        match &self.mode {
+            Mode::Held(decoder) => decoder.location(),
+            Mode::Flowing(reader) => reader.location(),
         }
     }
 
@@ -217,9 +217,9 @@ impl Reader {
         ensures none { result ≡ None → HasNoReason self.now }
         ensures whole { self.now.judgement.stand ≡ stand.Complete → result ≡ None }
     {
-        match &self.kind {
-            Kind::Held(_) => None,
-            Kind::Flowing(reader) => reader.why(),
+        match &self.mode {
+            Mode::Held(_) => None,
+            Mode::Flowing(reader) => reader.why(),
         }
     }
 
@@ -228,9 +228,9 @@ impl Reader {
     pub fn kept(&self) -> &[u8]
         ensures { result.now ≡ self.now.kept }
     {
-        match &self.kind {
-            Kind::Held(decoder) => decoder.wire(),
-            Kind::Flowing(reader) => reader.kept(),
+        match &self.mode {
+            Mode::Held(decoder) => decoder.wire(),
+            Mode::Flowing(reader) => reader.kept(),
         }
     }
 
@@ -241,10 +241,10 @@ impl Reader {
         ensures parts { result.1.items ≡ self.judgement.parts }
         ensures ordered { AreOrdered 0 (length self.kept) result.1.items }
     {
-        let Reader { kind } = self;
-        match kind {
-            Kind::Held(decoder) => decoder.into_parts(),
-            Kind::Flowing(reader) => reader.into_parts(),
+        let Reader { mode } = self;
+        match mode {
+            Mode::Held(decoder) => decoder.into_parts(),
+            Mode::Flowing(reader) => reader.into_parts(),
         }
     }
 
@@ -255,12 +255,12 @@ impl Reader {
         ensures front { IsPrefixOfEach self.now }
         ensures within { IsWithin self.now }
     {
-        match &self.kind {
-            Kind::Held(decoder) => {
+        match &self.mode {
+            Mode::Held(decoder) => {
                 // proof: the verdict is that on the bytes
                 let _stand = decoder.stand();
             }
-            Kind::Flowing(reader) => reader.know(),
+            Mode::Flowing(reader) => reader.know(),
         }
     }
 }

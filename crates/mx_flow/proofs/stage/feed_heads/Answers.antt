@@ -3,7 +3,7 @@ use Rattle.mx_body.specs.Steps.{IsFinalStepOn}
 use Rattle.mx_body.specs.declared.heads.FinalStep.TheVariants as final
 use Rattle.mx_flow.specs.Streams.{IsTaken}
 use Rattle.mx_flow.specs.Stages.{headless, at_stage}
-use Rattle.mx_flow.specs.declared.stand.Stand.TheVariants as stand
+use Rattle.mx_flow.specs.declared.stream_state.StreamState.TheVariants as stand
 use Rattle.mx_flow.specs.declared.stage.Stage.TheVariants as stages
 use Rattle.mx_flow.proofs.StageProofs.{before_read}
 use Rattle.mx_flow.proofs.stage.feed_heads.Goals as goal

@@ -5,7 +5,7 @@ use Rattle.mx_flow.specs.Streams.{IsTaken}
 use Rattle.mx_flow.specs.Stages.{at_stage, IsStage}
 use Rattle.mx_flow.specs.declared.stage.Stage.{Stage}
 use Rattle.mx_flow.specs.declared.stage.Stage.TheVariants as stages
-use Rattle.mx_flow.specs.declared.stand.Stand.TheVariants as stand
+use Rattle.mx_flow.specs.declared.stream_state.StreamState.TheVariants as stand
 use Rattle.mx_flow.proofs.StageProofs.{none_taken, body_taken}
 use Rattle.mx_flow.proofs.stage.feed_stage.Goals as goal
 

@@ -1,6 +1,6 @@
 use Rattle.std.proofs.Common.{List, ℕ, ◌-◌, length, ap, subst}
 use Rattle.mx_body.specs.Steps.{IsFinalStepOn}
-use Rattle.mx_flow.specs.declared.stand.Stand.TheVariants as stand
+use Rattle.mx_flow.specs.declared.stream_state.StreamState.TheVariants as stand
 use Rattle.mx_flow.proofs.StageProofs.{ends_behind, heads_taken}
 use Rattle.mx_flow.proofs.stage.go_on.Goals as goal
 

@@ -1,6 +1,6 @@
 use Rattle.std.proofs.Common.{subst}
 use Rattle.mx_flow.specs.Streams.{StreamValue, HasEnd}
-use Rattle.mx_flow.specs.declared.stand.Stand.TheVariants as stand
+use Rattle.mx_flow.specs.declared.stream_state.StreamState.TheVariants as stand
 use Rattle.mx_flow.proofs.StageProofs.{refused_ends, body_ends_so}
 use Rattle.mx_flow.proofs.stream.Stream.end_state.Goals as goal
 

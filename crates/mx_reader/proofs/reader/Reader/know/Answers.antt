@@ -1,5 +1,5 @@
 use Rattle.std.proofs.Common.{sym, ap, subst, ◌∙◌}
-use Rattle.mx_reader.specs.Kinds.{value_of}
+use Rattle.mx_reader.specs.Modes.{value_of}
 use Rattle.mx_reader.specs.Readers.{IsReader, IsPrefixOfEach}
 use Rattle.mx_reader.proofs.HeldLemmas.{held_is}
 use Rattle.mx_reader.proofs.reader.Reader.know.Goals as goal

@@ -8,7 +8,7 @@ use mx_types::Code;
 
 /// The state of the bytes of a response.
 #[derive(Clone, Copy, PartialEq, Eq)]
-pub enum Stand {
+pub enum StreamState {
     /// Nothing is decided yet.
     More,
     /// They are a whole response.
@@ -18,13 +18,13 @@ pub enum Stand {
 }
 
 // The state of the bytes of a response, by that of its body's.
-pub(crate) fn stand_of(state: BodyState) -> Stand
+pub(crate) fn stand_of(state: BodyState) -> StreamState
     ensures { result ≡ stages.stand_of state }
 {
     match state {
-        BodyState::More => Stand::More,
-        BodyState::Whole => Stand::Whole,
-        BodyState::Bad => Stand::Fault(Code::RecvError),
-        BodyState::TooLarge => Stand::Fault(Code::FilesizeExceeded),
+        BodyState::More => StreamState::More,
+        BodyState::Whole => StreamState::Whole,
+        BodyState::Bad => StreamState::Fault(Code::RecvError),
+        BodyState::TooLarge => StreamState::Fault(Code::FilesizeExceeded),
     }
 }
