@@ -7,7 +7,7 @@ ghost use Rattle.mx_types.specs.declared.call.Call.{Call};
 ghost use Rattle.mx_history.specs.History.{HasRoomForDue, may_follow, has_room, needs, has_ticket, is_maker, made_by, running, added, retire, waiting};
 ghost use Rattle.mx_history.specs.Answers.{answer, handle_of, is_ready, look_of, next_ticket, state_of};
 ghost use Rattle.mx_journal.specs.Called.{Called};
-ghost use Rattle.mx_journal.specs.Core.{claimed, queued, one_out, still_running, still_waiting, origin_of, with_out, AreOwn, IsSound, IsTabled};
+ghost use Rattle.mx_journal.specs.Core.{claimed, queued, one_out, retired, still_running, still_waiting, origin_of, with_out, AreOwn, IsSound, IsTabled};
 ghost use Rattle.mx_journal.specs.Replies.{pausing_call, is_back, queue_given, origins_given, IsGivenBack, IsRetiring, GiveBackUndoesClaim, is_pausing, answer_with_room, reply_of_info, ending_read, ending_recorded, IsHandedBack, reply_of_finish, origins_added, queue_added, handed_back, work_back, reply_of_add, reply_of_remove, reply_of_pause, reply_of_wakeup};
 ghost use Rattle.mx_history.specs.Slots.{slot_of};
 
@@ -627,12 +627,22 @@ impl<Q: Work + Drop, O: Ending + Drop> Control<Q, O> {
         if self.claim_out() {
             return RetireReply::ClaimOut;
         }
+        RetireReply::Retired(self.retire_beside_claims())
+    }
+
+    /// Retires old history as `retire` does, whether a claim is out or not, for who makes all calls on one thread. It says how many events are
+    /// kept.
+    pub fn retire_beside_claims(&mut self) -> u32
+        ensures retired { self.new ≡ retired self.old }
+        ensures kept { result ≡ length self.new.journal }
+        ensures next { next_ticket self.new.opening self.new.journal ≡ next_ticket self.old.opening self.old.journal }
+    {
         let first = self.next();
         keep_the_added(self.history, &mut self.journal, &mut self.table);
         self.before = self.table.makers();
         self.first = first;
         self.from = self.table.len();
-        RetireReply::Retired(self.from)
+        self.from
     }
 }
 

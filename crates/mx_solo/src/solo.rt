@@ -4,7 +4,8 @@ ghost use Rattle.mx_types.specs.Limits.{IsHistory};
 ghost use Rattle.mx_types.specs.declared.call.Call.{Call};
 ghost use Rattle.mx_history.specs.Answers.{state_of};
 ghost use Rattle.mx_history.specs.History.{added, running};
-ghost use Rattle.mx_journal.specs.Replies.{IsRetiring, ending_read, handed_back, origins_added, queue_added, reply_of_add, reply_of_info, reply_of_pause, reply_of_remove, work_back};
+ghost use Rattle.mx_journal.specs.Core.{retired, still_running, still_waiting};
+ghost use Rattle.mx_journal.specs.Replies.{ending_read, handed_back, origins_added, queue_added, reply_of_add, reply_of_info, reply_of_pause, reply_of_remove, work_back};
 ghost use Rattle.mx_chain.specs.Outcomes.{size_of};
 ghost use Rattle.mx_turn.specs.Workers.{starts};
 ghost use Rattle.mx_worker_turns.specs.WorkerSteps.{beside};
@@ -16,7 +17,7 @@ use crate::claims::SoloClaim;
 use crate::quiet::Quiet;
 use crate::seat::{Core, Seat};
 use mx_gate::Gate;
-use mx_journal::{AddReply, Control, InfoReply, PauseReply, RemoveReply, RetireReply};
+use mx_journal::{AddReply, Control, InfoReply, PauseReply, RemoveReply};
 use mx_link::Link;
 use mx_sink::{Delivery, Held};
 use mx_transfer_core::{Outcome, Queued};
@@ -99,6 +100,7 @@ impl<L: Link, D: Delivery> Solo<L, D> {
         ensures called { CalledAt (Call.Add handle) self.old.core self.new.core (reply_of_add result) }
         ensures queue { self.new.core.queue ≡ queue_added result self.old.core.queue work }
         ensures origins { self.new.core.origins ≡ origins_added result self.old.core.origins (request_origin work.request) }
+        ensures endings { self.new.core.endings ≡ self.old.core.endings }
         ensures own { IsAdded result self.new.core.origins work.request }
         ensures back { handed_back result ≡ work_back result work }
         ensures worker { self.new.worker ≡ self.old.worker }
@@ -116,6 +118,8 @@ impl<L: Link, D: Delivery> Solo<L, D> {
     /// `perform`, with its link.
     pub fn remove(&mut self, handle: HandleId) -> RemoveReply
         ensures called { CalledAt (Call.Remove handle) self.old.core self.new.core (reply_of_remove result) }
+        ensures queue { self.new.core.queue ≡ still_running self.new.core.journal self.old.core.queue }
+        ensures endings { self.new.core.endings ≡ still_waiting self.new.core.journal self.old.core.endings }
         ensures origins { self.new.core.origins ≡ self.old.core.origins }
         ensures worker { self.new.worker ≡ self.old.worker }
     {
@@ -129,6 +133,8 @@ impl<L: Link, D: Delivery> Solo<L, D> {
     /// Pauses a handle's transfer (curl_easy_pause(3)).
     pub fn pause(&mut self, handle: HandleId) -> PauseReply
         ensures called { CalledAt (Call.Pause handle) self.old.core self.new.core (reply_of_pause result) }
+        ensures queue { self.new.core.queue ≡ self.old.core.queue }
+        ensures endings { self.new.core.endings ≡ self.old.core.endings }
         ensures origins { self.new.core.origins ≡ self.old.core.origins }
         ensures worker { self.new.worker ≡ self.old.worker }
     {
@@ -142,6 +148,8 @@ impl<L: Link, D: Delivery> Solo<L, D> {
     /// Resumes a handle's transfer (curl_easy_pause(3)).
     pub fn unpause(&mut self, handle: HandleId) -> PauseReply
         ensures called { CalledAt (Call.Unpause handle) self.old.core self.new.core (reply_of_pause result) }
+        ensures queue { self.new.core.queue ≡ self.old.core.queue }
+        ensures endings { self.new.core.endings ≡ self.old.core.endings }
         ensures origins { self.new.core.origins ≡ self.old.core.origins }
         ensures worker { self.new.worker ≡ self.old.worker }
     {
@@ -156,6 +164,7 @@ impl<L: Link, D: Delivery> Solo<L, D> {
     /// that wait, and of the request that was added under its ticket.
     pub fn info_read(&mut self) -> InfoReply<Outcome<D>>
         ensures called { CalledAt Call.InfoRead self.old.core self.new.core (reply_of_info code_of size_of result) }
+        ensures queue { self.new.core.queue ≡ self.old.core.queue }
         ensures endings { self.old.core.endings ≡ ending_read result ++ self.new.core.endings }
         ensures own { EndingsOwn self.old.core.origins (ending_read result) }
         ensures origins { self.new.core.origins ≡ self.old.core.origins }
@@ -167,15 +176,16 @@ impl<L: Link, D: Delivery> Solo<L, D> {
         core.info_read(&mut self.log, CALLER)
     }
 
-    /// Retires old history (`Control::retire`), where no transfer is in flight; else it answers `ClaimOut`.
-    pub fn retire(&mut self) -> RetireReply
-        ensures retired { IsRetiring self.old.core result self.new.core }
+    /// Retires old history: it keeps the events of the handles that are added, and says how many they are. Transfers that are in flight go on.
+    pub fn retire(&mut self) -> u32
+        ensures retired { self.new.core ≡ retired self.old.core }
+        ensures kept { result ≡ length self.new.core.journal }
         ensures worker { self.new.worker ≡ self.old.worker }
     {
         let Some(core) = &mut self.core else {
             unreachable!()
         };
-        core.retire()
+        core.retire_beside_claims()
     }
 
     /// Takes a turn, and more while something could go on at once, 256 at most. It waits for nothing but what the gate's turns wait for

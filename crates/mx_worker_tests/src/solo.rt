@@ -7,7 +7,7 @@ use crate::steps::{COUNTED, Opening, RUN, Run};
 use crate::table::AT_ONCE;
 use crate::trouble::{Trouble, holds};
 use mx_gate::ScriptGate;
-use mx_journal::{AddReply, PauseReply, RemoveReply, RetireReply};
+use mx_journal::{AddReply, PauseReply, RemoveReply};
 use mx_link::{ScriptLink, ScriptRead};
 use mx_solo::Solo;
 use mx_types::{Code, HandleId, OutOfMemory};
@@ -28,8 +28,8 @@ enum Call {
     Timeout(u64, Option<u64>),
     /// Reads a message.
     Read(Wanted),
-    /// Whether old history is retired.
-    Retire(bool),
+    /// Retires old history, of which so many events are kept.
+    Retire(u32),
 }
 
 /// A row: the gate of a multi handle, and the calls on it.
@@ -160,21 +160,22 @@ static ROWS: [OneThread; 8] = [
             Call::Read(Wanted::Nothing),
         ],
     },
-    // rule core-retire-claims
     OneThread {
-        name: "history is retired while nothing is in flight",
+        name: "history is retired while a transfer is in flight",
         gate: Run {
             links: &[SLOW],
             ..GATE
         },
         calls: &[
-            Call::Retire(true),
+            Call::Retire(0),
             Call::Add(1, "http://a.example/", 0),
             Call::Perform(1),
-            Call::Retire(false),
+            Call::Retire(1),
             Call::Perform(0),
-            Call::Retire(true),
+            Call::Retire(2),
             Call::Read(Wanted::Of(1, Code::Ok, b"hello")),
+            Call::Remove(1),
+            Call::Retire(0),
         ],
     },
 ];
@@ -209,7 +210,7 @@ fn make(
         Call::Perform(running) => holds(solo.perform(gate) == running),
         Call::Timeout(now, wait) => holds(solo.timeout(now) == wait),
         Call::Read(wanted) => compare(&solo.info_read(), wanted),
-        Call::Retire(may) => holds(matches!(solo.retire(), RetireReply::Retired(_)) == may),
+        Call::Retire(kept) => holds(solo.retire() == kept),
     }
 }
 
