@@ -137,7 +137,7 @@ impl Crew {
     ) -> Result<SocketGate<'r, R>, Stop>
         ensures why { IfErr result (λ e. is_crew_stop e ≡ true) }
     {
-        match SocketGate::starting_at(rt, self.stop_flag()?, start) {
+        match SocketGate::starting_at(rt, rt.alloc(), self.stop_flag()?, start) {
             Ok(gate) => self.register(gate),
             Err(code) => Err(no_gate(code)),
         }

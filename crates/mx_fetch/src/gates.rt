@@ -31,7 +31,7 @@ fn has_descriptors<R: Runtime + Net<Listener = TcpListener, Stream = TcpStream>>
     start: Instant,
     count: usize,
 ) -> Result<bool, Stop> {
-    match SocketGate::starting_at(rt, crew.stop_flag()?, start) {
+    match SocketGate::starting_at(rt, rt.alloc(), crew.stop_flag()?, start) {
         Ok(gate) => {
             let has = gate.has_descriptors(count);
             drop(gate);

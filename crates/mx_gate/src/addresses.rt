@@ -10,7 +10,7 @@ ghost use Rattle.mx_gate.specs.Dials.{IsAt, AreAt, AreFound, AreAddressesOf};
 use mx_names::{Addresses, Lookup, SystemLookup, in_order, spelled, unbracketed};
 use mx_request::Endpoint;
 use mx_types::{Code, History, OutOfMemory};
-use std::alloc::{AllocGlobal, Global};
+use std::alloc::Global;
 use std::marker::Model;
 use std::net::{Net, SocketAddr};
 use std::snapshot::Snapshot;
@@ -132,8 +132,9 @@ fn only(alloc: Global, address: SocketAddr) -> Result<Vec<SocketAddr>, Code>
 /// the host.
 ///
 /// `CouldntResolveHost` comes where the lookup fails or gives nothing, `OutOfMemory` where memory is refused.
-pub fn addresses_of<R: Net + AllocGlobal>(
+pub fn addresses_of<R: Net>(
     rt: &R,
+    alloc: Global,
     endpoint: &Endpoint,
     found: &mut History<Found>,
 ) -> Result<Vec<SocketAddr>, Code>
@@ -145,11 +146,11 @@ pub fn addresses_of<R: Net + AllocGlobal>(
     let host = unbracketed(endpoint.host.as_str());
     // std's lookup parses addresses as well; here the clause `spelled` rests on the parser alone.
     match spelled(host) {
-        Some(ip) => match only(rt.alloc(), SocketAddr::new(ip, endpoint.port)) {
+        Some(ip) => match only(alloc, SocketAddr::new(ip, endpoint.port)) {
             Ok(all) => Ok(all),
             Err(code) => Err(code),
         },
-        None => match find(&SystemLookup::new(rt), rt.alloc(), endpoint, found) {
+        None => match find(&SystemLookup::new((rt, alloc)), alloc, endpoint, found) {
             Ok(all) => Ok(all),
             Err(code) => Err(code),
         },

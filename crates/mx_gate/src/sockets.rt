@@ -22,10 +22,11 @@ use mio::{Events, Interest, Poll, Registry, Token};
 use mx_link::{Link, TcpLink};
 use mx_request::Endpoint;
 use mx_types::{Code, History};
-use std::alloc::{AllocError, AllocGlobal, Global};
+use std::alloc::{AllocError, Global};
 use std::io;
 use std::marker::Model;
 use std::net::{Net, SocketAddr};
+use std::os::fd::{AsRawFd, RawFd};
 use std::rt::Clock;
 use std::sync::Arc;
 use std::sync::atomic::{AtomicBool, Ordering};
@@ -175,6 +176,7 @@ impl FileLimit {
 /// saw the flag that stops it, and all that was said. What the network answers, and when, no contract can say.
 pub struct SocketGate<'r, R> {
     rt: &'r R,
+    alloc: Global,
     poll: Poll,
     shared: Arc<SharedRegistry>,
     events: Events<Global>,
@@ -187,6 +189,7 @@ pub struct SocketGate<'r, R> {
     is_stopped: bool,
     looked_at: Option<u64>,
     may_skip: bool,
+    may_wait: bool,
     found: History<Found>,
     dialled: History<SocketAddr>,
     said: History<Said>,
@@ -197,6 +200,7 @@ impl<'r, R> Drop for SocketGate<'r, R> {
     fn drop(self) {
         let SocketGate {
             rt: _,
+            alloc: _,
             poll,
             shared,
             events,
@@ -209,6 +213,7 @@ impl<'r, R> Drop for SocketGate<'r, R> {
             is_stopped: _,
             looked_at: _,
             may_skip: _,
+            may_wait: _,
             found,
             dialled,
             said,
@@ -348,16 +353,16 @@ fn turn_of(is_stopped: bool) -> Turn
     }
 }
 
-impl<'r, R: Net + Clock + AllocGlobal> SocketGate<'r, R> {
+impl<'r, R: Net + Clock> SocketGate<'r, R> {
     /// A gate whose clock starts now, and whose turns answer `Stop` while the flag is set.
     ///
     /// `CouldntConnect` comes where the system gives no poll or no clock, `OutOfMemory` where memory is refused. An error drops the flag.
-    pub fn new(rt: &'r R, stop: Arc<AtomicBool>) -> Result<SocketGate<'r, R>, Code>
+    pub fn new(rt: &'r R, alloc: Global, stop: Arc<AtomicBool>) -> Result<SocketGate<'r, R>, Code>
         ensures opened { IfOk result (λ gate. gate ≡ record { latest = 0; next_token = 1; is_stopped = false; found = []; dialled = []; said = [] }) }
         ensures code { IfErr result (λ code. is_start_code code ≡ true) }
     {
         match Instant::now(rt) {
-            Ok(start) => SocketGate::starting_at(rt, stop, start),
+            Ok(start) => SocketGate::starting_at(rt, alloc, stop, start),
             Err(error) => Err(connect_code(&error)),
         }
     }
@@ -366,15 +371,17 @@ impl<'r, R: Net + Clock + AllocGlobal> SocketGate<'r, R> {
     /// since a deadline is a moment of the gate that set it. An error drops the flag.
     pub fn starting_at(
         rt: &'r R,
+        alloc: Global,
         stop: Arc<AtomicBool>,
         start: Instant,
     ) -> Result<SocketGate<'r, R>, Code>
         ensures opened { IfOk result (λ gate. gate ≡ record { latest = 0; next_token = 1; is_stopped = false; found = []; dialled = []; said = [] }) }
         ensures code { IfErr result (λ code. is_start_code code ≡ true) }
     {
-        match SocketGate::parts(rt) {
+        match SocketGate::parts(rt, alloc) {
             Ok((poll, shared, events, bell, signals)) => Ok(SocketGate {
                 rt,
+                alloc,
                 poll,
                 shared,
                 events,
@@ -387,6 +394,7 @@ impl<'r, R: Net + Clock + AllocGlobal> SocketGate<'r, R> {
                 is_stopped: false,
                 looked_at: None,
                 may_skip: false,
+                may_wait: true,
                 found: History::new(),
                 dialled: History::new(),
                 said: History::new(),
@@ -395,11 +403,33 @@ impl<'r, R: Net + Clock + AllocGlobal> SocketGate<'r, R> {
         }
     }
 
-    fn parts(rt: &'r R) -> io::Result<Parts> {
+    fn parts(rt: &'r R, alloc: Global) -> io::Result<Parts> {
         let poll = Poll::new(rt)?;
-        let shared = share(rt.alloc(), &poll)?;
-        let (events, bell, signals) = tellers(rt.alloc(), &poll)?;
+        let shared = share(alloc, &poll)?;
+        let (events, bell, signals) = tellers(alloc, &poll)?;
         Ok((poll, shared, events, bell, signals))
+    }
+
+    /// From now on no turn waits, for a caller that waits by itself: until the descriptor can be read. It calls `look_now` then, before the
+    /// next turn.
+    ///
+    /// No clause says that no turn waits.
+    pub fn wait_elsewhere(&mut self)
+        ensures { self.new ≡ self.old }
+    {
+        self.may_wait = false;
+    }
+
+    /// A descriptor that can be read once something is reported of a connection, until a look finds it: an epoll's. It is the gate's own.
+    pub fn descriptor(&self) -> RawFd {
+        self.poll.as_raw_fd()
+    }
+
+    /// Counts what is reported of each connection, and doesn't wait.
+    pub fn look_now(&mut self)
+        ensures { self.new ≡ self.old }
+    {
+        self.look(0);
     }
 
     /// The moment at which the gate's clock started.
@@ -429,7 +459,7 @@ impl<'r, R: Net + Clock + AllocGlobal> SocketGate<'r, R> {
     ///
     /// No clause says which it answers.
     pub fn has_descriptors(&self, count: usize) -> bool {
-        let mut held = Vec::new(self.rt.alloc());
+        let mut held = Vec::new(self.alloc);
         let are_open = open_registries(&self.shared.registry, count, &mut held).is_ok();
         drop(held);
         are_open
@@ -491,7 +521,7 @@ impl<'r, R: Net + Clock + AllocGlobal> SocketGate<'r, R> {
         ensures dialled { IfOk result (λ _. Dials endpoint.now self.old self.new) }
         ensures undialled { OnErr result ((self.new.dialled ≡ self.old.dialled) ⊎ Dials endpoint.now self.old self.new) }
     {
-        let addresses = addresses_of(self.rt, endpoint, &mut self.found)?;
+        let addresses = addresses_of(self.rt, self.alloc, endpoint, &mut self.found)?;
         match self.begin_at(addresses) {
             Ok(link) => Ok(link),
             Err(code) => Err(code),
@@ -512,7 +542,7 @@ impl<'r, R: Net + Clock + AllocGlobal> SocketGate<'r, R> {
         ensures refused { OnErr result (self.new ≡ record self.old { dialled = self.new.dialled }) }
         ensures dialled { IfOk result (λ link. NotesFirst (addresses_of link.link) self.old.dialled self.new.dialled) }
     {
-        let Ok(all) = at_port(self.rt.alloc(), addresses, endpoint.port) else {
+        let Ok(all) = at_port(self.alloc, addresses, endpoint.port) else {
             return Err(Code::OutOfMemory);
         };
         match self.begin_at(all) {
@@ -566,10 +596,14 @@ impl<'r, R: Net + Clock + AllocGlobal> SocketGate<'r, R> {
     }
 
     // rule gate-no-wait
-    // Waits so long, unless the bell was rung since the last turn. A turn of no wait looks where it may not skip that.
+    // Waits so long, unless the bell was rung since the last turn. A turn of no wait looks where it may not skip that. Where the caller waits
+    // by itself a turn that would have waited doesn't look, so that the descriptor can be read until somebody does.
     fn wait(&mut self, wait_ms: u32)
         ensures { self.new ≡ self.old }
     {
+        if wait_ms > 0 && !self.may_wait {
+            return;
+        }
         if self.bell.begin(wait_ms > 0) {
             self.look(wait_ms);
         } else if !self.may_skip {
@@ -596,7 +630,7 @@ impl<'r, R: Net + Clock + AllocGlobal> SocketGate<'r, R> {
     }
 }
 
-impl<'r, R: Net + Clock + AllocGlobal> Gate for SocketGate<'r, R> {
+impl<'r, R: Net + Clock> Gate for SocketGate<'r, R> {
     type Link = SocketLink<'r, R>;
 
     ghost said = { λ gate. gate.said };

@@ -123,7 +123,7 @@ fn found(
 ) -> Result<Vec<SocketAddr>, Code> {
     let mut outside = Outside::new(alloc, all);
     outside.refusal = refusal;
-    let found = addresses_of(&outside, there, &mut History::new());
+    let found = addresses_of(&outside, alloc, there, &mut History::new());
     drop(outside);
     found
 }

@@ -227,8 +227,8 @@ fn at_new<R: Threads, N: Net + Clock + AllocGlobal>(
     work: Work<'_>,
 ) -> Result<Seen, Fail> {
     let gate = match start {
-        Some(start) => SocketGate::starting_at(net, stop, start),
-        None => SocketGate::new(net, stop),
+        Some(start) => SocketGate::starting_at(net, rt.alloc(), stop, start),
+        None => SocketGate::new(net, rt.alloc(), stop),
     };
     match gate {
         Ok(gate) => Ok(at_given(threads, rt, gate, flag, work)),

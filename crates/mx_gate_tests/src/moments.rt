@@ -60,7 +60,7 @@ static ROWS: [(&'static str, Doing); 3] = [
 fn is_refused(outside: &Outside<'_>) -> Result<bool, Fail> {
     let stop = flag(outside.alloc)?;
     outside.is_clock_broken.store(true, Ordering::SeqCst);
-    let refused = SocketGate::new(outside, stop).err();
+    let refused = SocketGate::new(outside, outside.alloc, stop).err();
     Ok(refused == Some(Code::CouldntConnect))
 }
 

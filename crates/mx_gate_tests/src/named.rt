@@ -151,7 +151,7 @@ fn at_gate<R: Net + Clock + AllocGlobal + Threads + Wait + Copy + Send + Drop + 
     ends: (&Endpoint, &Endpoint),
     doing: Doing,
 ) -> Result<bool, Fail> {
-    let gate = given(SocketGate::starting_at(rt, flag(host.alloc())?, start))?;
+    let gate = given(SocketGate::starting_at(rt, host.alloc(), flag(host.alloc())?, start))?;
     match NamedGate::new(rt, gate, resolver) {
         Ok(gate) => Ok(does(rt, host, resolver, gate, ends, doing)),
         Err(error) => Err(error.into()),
