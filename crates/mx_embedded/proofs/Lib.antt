@@ -1,0 +1,2 @@
+mod PieceLemmas
+mod Reading

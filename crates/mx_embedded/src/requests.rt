@@ -1,0 +1,65 @@
+//! Requests from bytes.
+ghost use Rattle.std.specs.Prelude.{◌≡◌, IfOk};
+ghost use Rattle.mx_request.specs.Request.{IsRequest};
+
+use crate::fields::{copy_bytes, put_fields};
+use mx_request::Request;
+use mx_types::{Code, Method, Settings};
+use std::alloc::Global;
+
+/// What a request is made of, as bytes.
+#[derive(Clone, Copy)]
+pub struct Words<'b> {
+    /// The method in capitals.
+    pub method: &'b [u8],
+    pub url: &'b [u8],
+    /// Lines `Name: value`, which end with LF or CRLF.
+    pub fields: &'b [u8],
+    pub body: Option<&'b [u8]>,
+    /// 0 for no limit.
+    pub timeout_ms: u32,
+    /// How many redirects are followed: 255 at most.
+    pub max_redirects: u32,
+}
+
+// The settings of a request.
+fn settings_of(alloc: Global, words: Words<'_>) -> Result<Settings, Code>
+    ensures { IfOk result (λ s. s.timeout_ms ≡ words.entry.timeout_ms) }
+{
+    let mut settings = Settings::new(alloc);
+    put_fields(alloc, &mut settings, words.fields)?;
+    settings.timeout_ms = words.timeout_ms;
+    settings.max_redirects = u8::try_from(words.max_redirects).unwrap_or(u8::MAX);
+    if let Some(body) = words.body {
+        match copy_bytes(alloc, body) {
+            Ok(copy) => settings.body = Some(copy),
+            Err(_) => return Err(Code::OutOfMemory),
+        }
+    }
+    Ok(settings)
+}
+
+/// The request, by `Request::build`, with the URL in the text.
+///
+/// Where it can't be built the error is the code of `RequestError`; `UnsupportedProtocol` where the method is none of the six, `UrlMalformat`
+/// where the URL or a field isn't UTF-8, or a line of the fields has no colon.
+pub fn request_of(alloc: Global, words: Words<'_>) -> Result<Request, Code>
+    ensures request { IfOk result IsRequest }
+    ensures time { IfOk result (λ r. r.timeout_ms ≡ words.entry.timeout_ms) }
+{
+    let Ok(Ok(method)) = std::str::from_utf8(words.method).map(|text| text.parse::<Method>()) else {
+        return Err(Code::UnsupportedProtocol);
+    };
+    let Ok(url) = std::str::from_utf8(words.url) else {
+        return Err(Code::UrlMalformat);
+    };
+    let settings = settings_of(alloc, words)?;
+    match Request::build(alloc, method, url, settings) {
+        Ok(request) => {
+            // proof: what holds of every request
+            request.know();
+            Ok(request)
+        }
+        Err(refused) => Err(refused.code()),
+    }
+}
