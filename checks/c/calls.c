@@ -1,10 +1,12 @@
-/* Makes each call of mx_multi.h: calls PORT SILENT CUT. At PORT a server answers /small (10,240 bytes), /chunked (the same, in chunks),
-   /here (302 to /small) and /echo (the body that was sent); at SILENT one takes connections and says nothing; at CUT one closes in the
-   middle of a body. Prints a line for each answer that isn't as expected, and ends with 1 then. */
+/* Makes each call of mx_multi.h: calls PORT SILENT CUT [no-fork]. At PORT a server answers /small (10,240 bytes), /chunked (the same, in
+   chunks) and /here (302 to /small); at SILENT one takes connections and says nothing; at CUT one closes in the middle of a body. Prints a
+   line for each answer that isn't as expected, and ends with 1 then. */
 #include "common.h"
+#include <signal.h>
 #include <stdlib.h>
 #include <sys/epoll.h>
 #include <sys/eventfd.h>
+#include <sys/wait.h>
 #include <unistd.h>
 
 /* performs until a message came: 1; 0 where none came within so many turns of at most 20 ms */
@@ -189,6 +191,52 @@ static void wakes(mx_multi multi, const char *silent) {
   close(bell);
 }
 
+static volatile sig_atomic_t pipes;
+static void count_pipe(int number) { (void)number; pipes++; }
+
+/* a server that closes while a body is sent raises no SIGPIPE */
+static void sends(mx_multi multi, const char *cut) {
+  mx_code refused = 0;
+  mx_message message;
+  mx_outcome outcome = {NULL};
+  static char body[1000001];
+  memset(body, 'x', sizeof body - 1);
+  signal(SIGPIPE, count_pipe);
+  for (int time = 0; time < 3; time++) {
+    IS(add(multi, 5, "POST", cut, "", body, 0, 0, &refused), MXM_OK);
+    IS(until(multi, &message, &outcome, 500), 1);
+    if (outcome.at == NULL) return;
+    IS(message.code != 0, 1);
+    mx_outcome_close(outcome);
+    IS(mx_multi_remove(multi, 5), MXM_OK);
+  }
+  IS(pipes, 0);
+}
+
+/* a child has a multi handle of its own, while a transfer of its parent's runs */
+static void forks(mx_multi multi, const char *small) {
+  mx_code refused = 0;
+  mx_message message = {0, 0, 0, 0};
+  mx_outcome outcome = {NULL};
+  int status = 1;
+  IS(add(multi, 6, "GET", small, "", NULL, 0, 0, &refused), MXM_OK);
+  go_on(multi);
+  pid_t child = fork();
+  if (child == 0) {
+    mx_multi own = {NULL};
+    IS(mx_multi_open(64, 8, &own.at), MXM_OK);
+    ends(own, "GET", small, 0, 0, 200, 1, 10240);
+    mx_multi_close(own);
+    _exit(failed);
+  }
+  IS(waitpid(child, &status, 0), child);
+  IS(status, 0);
+  IS(until(multi, &message, &outcome, 500), 1);
+  IS(message.code, 0);
+  IS(mx_multi_remove(multi, 6), MXM_OK);
+  if (outcome.at != NULL) mx_outcome_close(outcome);
+}
+
 int main(int argc, char **argv) {
   char small[99], chunked[99], here[99], named[99], silent[99], cut[99], closed[] = "http://127.0.0.1:1/";
   if (argc < 4) return 2;
@@ -215,6 +263,8 @@ int main(int argc, char **argv) {
   copies(multi, small);
   copies(multi, chunked);
   IS(mx_multi_retire(multi), MXM_OK);
+  sends(multi, cut);
+  if (argc == 4) forks(multi, small);
   wakes(multi, silent);
   mx_multi_close(multi); /* while a transfer runs */
   mx_code refused = 0;
