@@ -5,7 +5,7 @@ use mx_types::Ticket;
 
 /// A call of deadlines, and what it answers.
 #[derive(Clone, Copy)]
-enum Call {
+enum DeadlineCall {
     /// Sets the deadline of a ticket.
     Set(Ticket, u64),
     /// Clears it.
@@ -19,34 +19,34 @@ enum Call {
 }
 
 /// A script: its name, and the calls.
-type Script = (&'static str, &'static [Call]);
+type Script = (&'static str, &'static [DeadlineCall]);
 
 static SCRIPTS: [Script; 2] = [
     // rule deadline-due
     (
         "due_tickets_come_by_moment_then_ticket",
         &[
-            Call::Set(Ticket(4), 100),
-            Call::Set(Ticket(2), 100),
-            Call::Set(Ticket(9), 50),
-            Call::Due(49, &[]),
-            Call::Next(Some(50)),
-            Call::Due(100, &[Ticket(9), Ticket(2), Ticket(4)]),
-            Call::Next(None),
+            DeadlineCall::Set(Ticket(4), 100),
+            DeadlineCall::Set(Ticket(2), 100),
+            DeadlineCall::Set(Ticket(9), 50),
+            DeadlineCall::Due(49, &[]),
+            DeadlineCall::Next(Some(50)),
+            DeadlineCall::Due(100, &[Ticket(9), Ticket(2), Ticket(4)]),
+            DeadlineCall::Next(None),
         ],
     ),
     // rule deadline-count
     (
         "deadline_is_replaced_and_cleared",
         &[
-            Call::Set(Ticket(1), 10),
-            Call::Set(Ticket(2), 20),
-            Call::Set(Ticket(1), 30),
-            Call::Next(Some(20)),
-            Call::Clear(Ticket(2)),
-            Call::Next(Some(30)),
-            Call::HasRoom(Ticket(3), true),
-            Call::Due(30, &[Ticket(1)]),
+            DeadlineCall::Set(Ticket(1), 10),
+            DeadlineCall::Set(Ticket(2), 20),
+            DeadlineCall::Set(Ticket(1), 30),
+            DeadlineCall::Next(Some(20)),
+            DeadlineCall::Clear(Ticket(2)),
+            DeadlineCall::Next(Some(30)),
+            DeadlineCall::HasRoom(Ticket(3), true),
+            DeadlineCall::Due(30, &[Ticket(1)]),
         ],
     ),
 ];
@@ -61,21 +61,21 @@ fn set(deadlines: &mut Deadlines, ticket: Ticket, moment: u64) -> bool {
 }
 
 /// Makes a call: whether it answers so.
-fn make_call(deadlines: &mut Deadlines, call: Call) -> bool {
+fn make_call(deadlines: &mut Deadlines, call: DeadlineCall) -> bool {
     match call {
-        Call::Set(ticket, moment) => set(deadlines, ticket, moment),
-        Call::Clear(ticket) => {
+        DeadlineCall::Set(ticket, moment) => set(deadlines, ticket, moment),
+        DeadlineCall::Clear(ticket) => {
             deadlines.clear(ticket);
             true
         }
-        Call::Next(moment) => deadlines.next() == moment,
-        Call::Due(now, tickets) => deadlines.due(now).as_slice() == tickets,
-        Call::HasRoom(ticket, has_room) => deadlines.has_room_for(ticket) == has_room,
+        DeadlineCall::Next(moment) => deadlines.next() == moment,
+        DeadlineCall::Due(now, tickets) => deadlines.due(now).as_slice() == tickets,
+        DeadlineCall::HasRoom(ticket, has_room) => deadlines.has_room_for(ticket) == has_room,
     }
 }
 
 /// Whether a script goes as it should.
-fn goes(calls: &[Call]) -> bool {
+fn goes(calls: &[DeadlineCall]) -> bool {
     let mut deadlines = Deadlines::new();
     let mut is_right = true;
     for one in calls {

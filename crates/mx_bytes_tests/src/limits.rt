@@ -27,7 +27,7 @@ static ONE_BYTE_MORE: Response = Response {
 
 /// The result of a response at a limit.
 #[derive(Clone, Copy)]
-pub(crate) enum Told {
+pub(crate) enum LimitedBody {
     /// A body of all its bytes, where they end there.
     Open,
     /// A body that hasn't ended.
@@ -37,16 +37,16 @@ pub(crate) enum Told {
 }
 
 /// The response that has that result.
-fn response_of(told: Told) -> &'static Response {
+fn response_of(told: LimitedBody) -> &'static Response {
     match told {
-        Told::Open => &OPEN_BODY,
-        Told::Short => &SHORT_BODY,
-        Told::OneByteMore => &ONE_BYTE_MORE,
+        LimitedBody::Open => &OPEN_BODY,
+        LimitedBody::Short => &SHORT_BODY,
+        LimitedBody::OneByteMore => &ONE_BYTE_MORE,
     }
 }
 
 /// Whether it has that result, before its end and with it.
-pub(crate) fn is_told_anyhow(alloc: Global, told: Told, bytes: &[u8]) -> bool {
+pub(crate) fn is_told_anyhow(alloc: Global, told: LimitedBody, bytes: &[u8]) -> bool {
     let row = response_of(told);
     is_told(alloc, row, bytes, true) && is_told(alloc, row, bytes, false)
 }
@@ -56,13 +56,13 @@ static LIMITS: [Row; 4] = [
     (
         "open_body_at_the_limit",
         Filled(b"HTTP/1.0 200 OK\r\n\r\n", MOST_BYTES),
-        Expected::Told(Told::Open),
+        Expected::Told(LimitedBody::Open),
     ),
     // rule body-size
     (
         "open_body_past_the_limit",
         Filled(b"HTTP/1.0 200 OK\r\n\r\n", MOST_BYTES + 1),
-        Expected::Told(Told::OneByteMore),
+        Expected::Told(LimitedBody::OneByteMore),
     ),
     // the greatest size, which can't fit after a head
     (
@@ -71,7 +71,7 @@ static LIMITS: [Row; 4] = [
             b"HTTP/1.1 200 OK\r\nTransfer-Encoding: chunked\r\n\r\n4000000\r\n",
             MOST_BYTES,
         ),
-        Expected::Told(Told::Short),
+        Expected::Told(LimitedBody::Short),
     ),
     (
         "chunk_past_the_limit",
@@ -79,7 +79,7 @@ static LIMITS: [Row; 4] = [
             b"HTTP/1.1 200 OK\r\nTransfer-Encoding: chunked\r\n\r\n4000000\r\n",
             MOST_BYTES + 1,
         ),
-        Expected::Told(Told::OneByteMore),
+        Expected::Told(LimitedBody::OneByteMore),
     ),
 ];
 

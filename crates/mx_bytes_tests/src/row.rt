@@ -3,7 +3,7 @@
 use crate::chunked::{has_parts, is_bad_at_last, is_scanned, is_too_large_from, waits_for_each};
 use crate::cuts::is_known_anywhere;
 use crate::heads::{is_framed, is_head, is_kept, refuses_front, wants_more_of};
-use crate::limits::{Told, is_told_anyhow};
+use crate::limits::{LimitedBody, is_told_anyhow};
 use crate::locations::{is_located, is_located_behind};
 use crate::pieces::{completes, has_all_chunks, is_refused_at_last};
 use crate::reasons::{is_cut_so, is_fault, is_refused, is_whole};
@@ -54,7 +54,7 @@ pub(crate) enum Expected {
     /// A decoder refuses the last of them, and none before it.
     RefusedAtLast(Code),
     /// A response at a limit.
-    Told(Told),
+    Told(LimitedBody),
     /// What a scan for a chunked body with that limit finds.
     Scan(u32, ChunkedScan),
     /// They are a chunked body, and no proper prefix of them is.

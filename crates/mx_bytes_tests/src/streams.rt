@@ -97,7 +97,7 @@ fn takes(stream: &mut Stream, row: &Response, bytes: &[u8], len: usize, out: &mu
 
 /// What a row says of the content.
 #[derive(Clone, Copy)]
-enum Told {
+enum ToldContent {
     /// The content of a whole response.
     OfWhole,
     /// What is handed on, also where the response is refused.
@@ -106,21 +106,27 @@ enum Told {
 
 // rule body-stream-reason
 /// Whether the stream of a row of the table tells the reason of a response that is held. It tells none where the body is too large.
-fn tells_why(alloc: Global, stream: &Stream, row: &Response, bytes: &[u8], told: Told) -> bool {
+fn tells_why(
+    alloc: Global,
+    stream: &Stream,
+    row: &Response,
+    bytes: &[u8],
+    told: ToldContent,
+) -> bool {
     match told {
-        Told::OfWhole => {
+        ToldContent::OfWhole => {
             row.code == Code::FilesizeExceeded
                 || stream.why() == reason_of(alloc, row.method, bytes)
         }
-        Told::OfAny => true,
+        ToldContent::OfAny => true,
     }
 }
 
 /// Whether the content that was handed on is that of a row.
-fn is_content(content: &[u8], row: &Response, told: Told) -> bool {
+fn is_content(content: &[u8], row: &Response, told: ToldContent) -> bool {
     match told {
-        Told::OfWhole => row.code != Code::Ok || content == row.body,
-        Told::OfAny => content == row.body,
+        ToldContent::OfWhole => row.code != Code::Ok || content == row.body,
+        ToldContent::OfAny => content == row.body,
     }
 }
 
@@ -131,7 +137,7 @@ fn is_handed_on(
     bytes: &[u8],
     most_bytes: Option<u64>,
     len: usize,
-    told: Told,
+    told: ToldContent,
 ) -> bool {
     let mut stream = Stream::new(alloc, row.method, most_bytes);
     let mut out = Vec::new(alloc);
@@ -150,7 +156,7 @@ fn wrong_len(
     row: &Response,
     bytes: &[u8],
     most_bytes: Option<u64>,
-    told: Told,
+    told: ToldContent,
 ) -> Option<usize> {
     for len in LENS {
         if !is_handed_on(alloc, row, bytes, most_bytes, len, told) {
@@ -183,7 +189,7 @@ pub(crate) fn wrong_len_of(alloc: Global, row: &Response) -> Option<usize> {
             row,
             &bytes,
             Some(limit_of(row, &bytes)),
-            Told::OfWhole,
+            ToldContent::OfWhole,
         ),
         Err(AllocError) => Some(0),
     }
@@ -298,7 +304,7 @@ static LIMITED: [Limited; 9] = [
 /// The first length of pieces in which a response at a limit isn't handed on so; 0 where its bytes find no memory.
 fn wrong_len_at_limit(alloc: Global, limited: &Limited) -> Option<usize> {
     match limited.0.bytes(alloc) {
-        Ok(bytes) => wrong_len(alloc, &limited.0, &bytes, limited.1, Told::OfAny),
+        Ok(bytes) => wrong_len(alloc, &limited.0, &bytes, limited.1, ToldContent::OfAny),
         Err(AllocError) => Some(0),
     }
 }

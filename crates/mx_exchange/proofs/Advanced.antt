@@ -224,7 +224,6 @@ module _ {L : Type 0} (history : L → List Answer) where
   pub Touch-unserved : (t new : ExchangeState L) → MayTouch t → (t.link ≡ None) × (t.needs_probe ≡ false) → new ≡ t → Turns history t new waits
   Touch-unserved t new may none same = turned may t (inl (none.1, refl)) (unserved none.0 same)
 
-  -- a turn that may touch the link, whose exchange was taken out
   -- a hop is of the exchange's request
   pub Turns-request : (t new : ExchangeState L) (o : HopValue) → Turns history t new (ends o) → o.request ≡ t.request
   Turns-request t new o (late due is s) = s.ends.request

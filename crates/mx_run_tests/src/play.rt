@@ -98,17 +98,17 @@ fn see_most_reads(alloc: Global, tally: &mut RowTally) -> Result<(), AllocError>
 }
 
 /// A number of reads of `SCRIPT`, a byte each, after which one fails, what is printed, and the exit status.
-type Written<'a> = (usize, &'a str, u8);
+type WrittenRow<'a> = (usize, &'a str, u8);
 
 /// The whole script, its first line, and nothing of it.
-static WRITTEN: [Written<'static>; 3] = [
+static WRITTEN: [WrittenRow<'static>; 3] = [
     (35, REPLIES, 0),
     (6, "added 0\nFAULT 56\n", 56),
     (0, "FAULT 56\n", 56),
 ];
 
 /// The exit status where the writer takes so many writes; `None` where it took other bytes than it should.
-fn answers_full(alloc: Global, row: Written<'_>, writes: u8) -> Option<u8> {
+fn answers_full(alloc: Global, row: WrittenRow<'_>, writes: u8) -> Option<u8> {
     let (reads, printed, status) = row;
     let mut taken = Vec::new(alloc);
     let writer = Full {

@@ -12,13 +12,13 @@ use std::alloc::{AllocError, Global};
 
 /// What was written, and the exit status.
 #[derive(Drop)]
-struct Written {
+struct RunOutput {
     written: Vec<u8>,
     told: Vec<u8>,
     status: u8,
 }
 
-fn decode(alloc: Global, method: Method, input: &[u8]) -> Written {
+fn decode(alloc: Global, method: Method, input: &[u8]) -> RunOutput {
     let mut written = Vec::new(alloc);
     let status = run_body(
         alloc,
@@ -26,14 +26,14 @@ fn decode(alloc: Global, method: Method, input: &[u8]) -> Written {
         &mut Input::new(input, MOST_BODY_READS),
         &mut Output::new(&mut written),
     );
-    Written {
+    RunOutput {
         written,
         told: Vec::new(alloc),
         status,
     }
 }
 
-fn play(alloc: Global, history: u32, first: u32, input: &[u8]) -> Written
+fn play(alloc: Global, history: u32, first: u32, input: &[u8]) -> RunOutput
     requires { IsHistory history }
 {
     let mut written = Vec::new(alloc);
@@ -44,14 +44,14 @@ fn play(alloc: Global, history: u32, first: u32, input: &[u8]) -> Written
         &mut Input::new(input, mx_run_local::MOST_SCRIPT_READS),
         &mut Output::new(&mut written),
     );
-    Written {
+    RunOutput {
         written,
         told: Vec::new(alloc),
         status,
     }
 }
 
-fn explain(alloc: Global, method: Method, input: &[u8]) -> Written {
+fn explain(alloc: Global, method: Method, input: &[u8]) -> RunOutput {
     let mut written = Vec::new(alloc);
     let mut told = Vec::new(alloc);
     let status = run_body_explained(
@@ -61,27 +61,27 @@ fn explain(alloc: Global, method: Method, input: &[u8]) -> Written {
         &mut Output::new(&mut written),
         &mut Output::new(&mut told),
     );
-    Written {
+    RunOutput {
         written,
         told,
         status,
     }
 }
 
-fn add_run(seen: &mut SeenText, run: &Written) -> Result<(), AllocError> {
+fn add_run(seen: &mut SeenText, run: &RunOutput) -> Result<(), AllocError> {
     seen.see('>', run.written.as_slice())?;
     seen.see('!', run.told.as_slice())?;
     seen.end(run.status)
 }
 
-fn tell_run(alloc: Global, run: &Written) -> Result<String, AllocError> {
+fn tell_run(alloc: Global, run: &RunOutput) -> Result<String, AllocError> {
     let mut seen = SeenText::new(alloc);
     add_run(&mut seen, run)?;
     Ok(seen.text)
 }
 
 /// Whether `body` prints and ends with this.
-fn is_plain(alloc: Global, method: Method, input: &[u8], run: &Written) -> bool {
+fn is_plain(alloc: Global, method: Method, input: &[u8], run: &RunOutput) -> bool {
     let plain = decode(alloc, method, input);
     let is_so = run.status == plain.status && run.written.as_slice() == plain.written.as_slice();
     drop(plain);

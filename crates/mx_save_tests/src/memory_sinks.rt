@@ -8,7 +8,7 @@ use std::alloc::Global;
 use std::test::Fail;
 
 // A body of 10 bytes that is given to a sink which takes this many.
-struct Row {
+struct MemorySinkRow {
     name: &'static str,
     most: usize,
     piece: usize,
@@ -16,43 +16,43 @@ struct Row {
     has_room: bool,
 }
 
-static ROWS: [Row; 6] = [
-    Row {
+static ROWS: [MemorySinkRow; 6] = [
+    MemorySinkRow {
         name: "more than the body",
         most: 11,
         piece: 3,
         taken: 10,
         has_room: true,
     },
-    Row {
+    MemorySinkRow {
         name: "the very body",
         most: 10,
         piece: 1,
         taken: 10,
         has_room: false,
     },
-    Row {
+    MemorySinkRow {
         name: "the very body, in one piece",
         most: 10,
         piece: 10,
         taken: 10,
         has_room: false,
     },
-    Row {
+    MemorySinkRow {
         name: "it ends within a piece",
         most: 8,
         piece: 3,
         taken: 8,
         has_room: false,
     },
-    Row {
+    MemorySinkRow {
         name: "it ends with a piece",
         most: 6,
         piece: 3,
         taken: 6,
         has_room: false,
     },
-    Row {
+    MemorySinkRow {
         name: "it takes none",
         most: 0,
         piece: 3,
@@ -62,7 +62,7 @@ static ROWS: [Row; 6] = [
 ];
 
 // Whether a sink takes what its row says, and has that.
-fn is_right(alloc: Global, body: &[u8], row: &Row) -> bool {
+fn is_right(alloc: Global, body: &[u8], row: &MemorySinkRow) -> bool {
     let mut sink = MemorySink::new(alloc, row.most);
     let (taken, error) = give(&mut sink, body, row.piece.max(1));
     let has_room = sink.has_room();

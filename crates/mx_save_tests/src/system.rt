@@ -61,7 +61,7 @@ impl OnOpen {
     }
 }
 
-enum Step {
+enum SystemStep {
     Files(OnFiles),
     Save(SaveCall),
     Three(&'static ThreeSaves),
@@ -74,7 +74,7 @@ enum Step {
 struct Scenario {
     name: &'static str,
     root: &'static str,
-    steps: &'static [Step],
+    steps: &'static [SystemStep],
 }
 
 static SCENARIOS: [Scenario; 7] = [
@@ -82,23 +82,23 @@ static SCENARIOS: [Scenario; 7] = [
         name: "a folder is made",
         root: "made-by-a-test",
         steps: &[
-            Step::Save(SaveCall {
+            SystemStep::Save(SaveCall {
                 folder: "made-by-a-test/a/b",
                 url: "http://h/x",
                 body: &[b"o", b"ne"],
                 flush: false,
                 answer: Ok(()),
             }),
-            Step::Files(OnFiles::Holds("made-by-a-test/a/b/x", "one")),
-            Step::Save(SaveCall {
+            SystemStep::Files(OnFiles::Holds("made-by-a-test/a/b/x", "one")),
+            SystemStep::Save(SaveCall {
                 folder: "made-by-a-test/a/b",
                 url: "http://h/x",
                 body: &[b"other"],
                 flush: true,
                 answer: Ok(()),
             }),
-            Step::Files(OnFiles::Holds("made-by-a-test/a/b/x", "other")),
-            Step::Files(OnFiles::RemoveFolder("made-by-a-test")),
+            SystemStep::Files(OnFiles::Holds("made-by-a-test/a/b/x", "other")),
+            SystemStep::Files(OnFiles::RemoveFolder("made-by-a-test")),
         ],
     },
     // rule file-part-that-exists
@@ -106,19 +106,19 @@ static SCENARIOS: [Scenario; 7] = [
         name: "a part that is there isn't touched, and the next number is taken",
         root: "part-of-a-test",
         steps: &[
-            Step::Files(OnFiles::MakeFolder("part-of-a-test")),
-            Step::Files(OnFiles::MakeFile("part-of-a-test/.mxfetch-42-0.part", "mine")),
-            Step::Save(SaveCall {
+            SystemStep::Files(OnFiles::MakeFolder("part-of-a-test")),
+            SystemStep::Files(OnFiles::MakeFile("part-of-a-test/.mxfetch-42-0.part", "mine")),
+            SystemStep::Save(SaveCall {
                 folder: "part-of-a-test",
                 url: "http://h/x",
                 body: &[b"o", b"ne"],
                 flush: false,
                 answer: Ok(()),
             }),
-            Step::Files(OnFiles::Holds("part-of-a-test/x", "one")),
-            Step::Files(OnFiles::Holds("part-of-a-test/.mxfetch-42-0.part", "mine")),
-            Step::Files(OnFiles::Lacks("part-of-a-test/.mxfetch-42-1.part")),
-            Step::Files(OnFiles::RemoveFolder("part-of-a-test")),
+            SystemStep::Files(OnFiles::Holds("part-of-a-test/x", "one")),
+            SystemStep::Files(OnFiles::Holds("part-of-a-test/.mxfetch-42-0.part", "mine")),
+            SystemStep::Files(OnFiles::Lacks("part-of-a-test/.mxfetch-42-1.part")),
+            SystemStep::Files(OnFiles::RemoveFolder("part-of-a-test")),
         ],
     },
     // rule file-links-and-folders
@@ -126,44 +126,44 @@ static SCENARIOS: [Scenario; 7] = [
         name: "a folder is in the way, and a link is replaced",
         root: "way-of-a-test",
         steps: &[
-            Step::Files(OnFiles::MakeFolder("way-of-a-test")),
-            Step::Files(OnFiles::MakeFolder("way-of-a-test/x")),
-            Step::Files(OnFiles::MakeFile("way-of-a-test/far", "far")),
-            Step::Files(OnFiles::MakeLink("far", "way-of-a-test/y")),
-            Step::Save(SaveCall {
+            SystemStep::Files(OnFiles::MakeFolder("way-of-a-test")),
+            SystemStep::Files(OnFiles::MakeFolder("way-of-a-test/x")),
+            SystemStep::Files(OnFiles::MakeFile("way-of-a-test/far", "far")),
+            SystemStep::Files(OnFiles::MakeLink("far", "way-of-a-test/y")),
+            SystemStep::Save(SaveCall {
                 folder: "way-of-a-test",
                 url: "http://h/x",
                 body: &[b"o", b"ne"],
                 flush: false,
                 answer: Err(SaveError::Place(FolderError::AlreadyThere)),
             }),
-            Step::Files(OnFiles::Lacks("way-of-a-test/.mxfetch-42-0.part")),
-            Step::Save(SaveCall {
+            SystemStep::Files(OnFiles::Lacks("way-of-a-test/.mxfetch-42-0.part")),
+            SystemStep::Save(SaveCall {
                 folder: "way-of-a-test",
                 url: "http://h/y",
                 body: &[b"other"],
                 flush: false,
                 answer: Ok(()),
             }),
-            Step::Files(OnFiles::Holds("way-of-a-test/y", "other")),
-            Step::Files(OnFiles::Holds("way-of-a-test/far", "far")),
-            Step::Files(OnFiles::RemoveFolder("way-of-a-test")),
+            SystemStep::Files(OnFiles::Holds("way-of-a-test/y", "other")),
+            SystemStep::Files(OnFiles::Holds("way-of-a-test/far", "far")),
+            SystemStep::Files(OnFiles::RemoveFolder("way-of-a-test")),
         ],
     },
     Scenario {
         name: "looks",
         root: "look-of-a-test",
         steps: &[
-            Step::Files(OnFiles::MakeFolder("look-of-a-test")),
-            Step::Files(OnFiles::MakeFile("look-of-a-test/file", "")),
-            Step::Files(OnFiles::MakeFolder("look-of-a-test/folder")),
-            Step::Files(OnFiles::MakeLink("file", "look-of-a-test/link")),
-            Step::Open("look-of-a-test"),
-            Step::Folder(OnOpen::Look("http://h/absent", Ok(Kind::Absent))),
-            Step::Folder(OnOpen::Look("http://h/file", Ok(Kind::File))),
-            Step::Folder(OnOpen::Look("http://h/folder", Ok(Kind::Other))),
-            Step::Folder(OnOpen::Look("http://h/link", Ok(Kind::Other))),
-            Step::Files(OnFiles::RemoveFolder("look-of-a-test")),
+            SystemStep::Files(OnFiles::MakeFolder("look-of-a-test")),
+            SystemStep::Files(OnFiles::MakeFile("look-of-a-test/file", "")),
+            SystemStep::Files(OnFiles::MakeFolder("look-of-a-test/folder")),
+            SystemStep::Files(OnFiles::MakeLink("file", "look-of-a-test/link")),
+            SystemStep::Open("look-of-a-test"),
+            SystemStep::Folder(OnOpen::Look("http://h/absent", Ok(Kind::Absent))),
+            SystemStep::Folder(OnOpen::Look("http://h/file", Ok(Kind::File))),
+            SystemStep::Folder(OnOpen::Look("http://h/folder", Ok(Kind::Other))),
+            SystemStep::Folder(OnOpen::Look("http://h/link", Ok(Kind::Other))),
+            SystemStep::Files(OnFiles::RemoveFolder("look-of-a-test")),
         ],
     },
     // rule file-whole-body
@@ -172,10 +172,10 @@ static SCENARIOS: [Scenario; 7] = [
         name: "three parts are out at a time, come back in another order, and leave two files",
         root: "three-of-a-test",
         steps: &[
-            Step::Files(OnFiles::MakeFolder("three-of-a-test")),
-            Step::Files(OnFiles::MakeFile("three-of-a-test/y", "before")),
-            Step::Files(OnFiles::MakeFile("three-of-a-test/z", "before")),
-            Step::Three(&ThreeSaves {
+            SystemStep::Files(OnFiles::MakeFolder("three-of-a-test")),
+            SystemStep::Files(OnFiles::MakeFile("three-of-a-test/y", "before")),
+            SystemStep::Files(OnFiles::MakeFile("three-of-a-test/z", "before")),
+            SystemStep::Three(&ThreeSaves {
                 folder: "three-of-a-test",
                 three: Three {
                     bodies: [BYE, &[b"o", b"ne"], HELLO],
@@ -184,13 +184,13 @@ static SCENARIOS: [Scenario; 7] = [
                 },
                 told: "discarded\nsaved\nsaved\n",
             }),
-            Step::Files(OnFiles::Holds("three-of-a-test/x", "bye")),
-            Step::Files(OnFiles::Holds("three-of-a-test/y", "before")),
-            Step::Files(OnFiles::Holds("three-of-a-test/z", "hello you")),
-            Step::Files(OnFiles::Lacks("three-of-a-test/.mxfetch-42-0.part")),
-            Step::Files(OnFiles::Lacks("three-of-a-test/.mxfetch-42-1.part")),
-            Step::Files(OnFiles::Lacks("three-of-a-test/.mxfetch-42-2.part")),
-            Step::Files(OnFiles::RemoveFolder("three-of-a-test")),
+            SystemStep::Files(OnFiles::Holds("three-of-a-test/x", "bye")),
+            SystemStep::Files(OnFiles::Holds("three-of-a-test/y", "before")),
+            SystemStep::Files(OnFiles::Holds("three-of-a-test/z", "hello you")),
+            SystemStep::Files(OnFiles::Lacks("three-of-a-test/.mxfetch-42-0.part")),
+            SystemStep::Files(OnFiles::Lacks("three-of-a-test/.mxfetch-42-1.part")),
+            SystemStep::Files(OnFiles::Lacks("three-of-a-test/.mxfetch-42-2.part")),
+            SystemStep::Files(OnFiles::RemoveFolder("three-of-a-test")),
         ],
     },
     // rule file-links-and-folders
@@ -198,9 +198,9 @@ static SCENARIOS: [Scenario; 7] = [
         name: "a folder is in the way of one of three, which are kept in another order",
         root: "three-ways-of-a-test",
         steps: &[
-            Step::Files(OnFiles::MakeFolder("three-ways-of-a-test")),
-            Step::Files(OnFiles::MakeFolder("three-ways-of-a-test/y")),
-            Step::Three(&ThreeSaves {
+            SystemStep::Files(OnFiles::MakeFolder("three-ways-of-a-test")),
+            SystemStep::Files(OnFiles::MakeFolder("three-ways-of-a-test/y")),
+            SystemStep::Three(&ThreeSaves {
                 folder: "three-ways-of-a-test",
                 three: Three {
                     bodies: [BYE, &[b"o", b"ne"], HELLO],
@@ -209,32 +209,32 @@ static SCENARIOS: [Scenario; 7] = [
                 },
                 told: "saved\nsomething else has that name\nsaved\n",
             }),
-            Step::Files(OnFiles::Holds("three-ways-of-a-test/x", "bye")),
-            Step::Files(OnFiles::Holds("three-ways-of-a-test/z", "hello you")),
-            Step::Files(OnFiles::Lacks("three-ways-of-a-test/.mxfetch-42-1.part")),
-            Step::Files(OnFiles::RemoveFolder("three-ways-of-a-test")),
+            SystemStep::Files(OnFiles::Holds("three-ways-of-a-test/x", "bye")),
+            SystemStep::Files(OnFiles::Holds("three-ways-of-a-test/z", "hello you")),
+            SystemStep::Files(OnFiles::Lacks("three-ways-of-a-test/.mxfetch-42-1.part")),
+            SystemStep::Files(OnFiles::RemoveFolder("three-ways-of-a-test")),
         ],
     },
     Scenario {
         name: "a folder that is gone, and a file where the folder is to be",
         root: "gone-of-a-test",
         steps: &[
-            Step::Open("gone-of-a-test"),
-            Step::Files(OnFiles::RemoveFolder("gone-of-a-test")),
-            Step::Folder(OnOpen::Save(
+            SystemStep::Open("gone-of-a-test"),
+            SystemStep::Files(OnFiles::RemoveFolder("gone-of-a-test")),
+            SystemStep::Folder(OnOpen::Save(
                 "http://h/x",
                 &[b"o", b"ne"],
                 Err(SaveError::Create(FolderError::NotThere)),
             )),
-            Step::Files(OnFiles::MakeFile("gone-of-a-test", "")),
-            Step::Save(SaveCall {
+            SystemStep::Files(OnFiles::MakeFile("gone-of-a-test", "")),
+            SystemStep::Save(SaveCall {
                 folder: "gone-of-a-test",
                 url: "http://h/x",
                 body: &[b"o", b"ne"],
                 flush: true,
                 answer: Err(SaveError::Create(FolderError::AlreadyThere)),
             }),
-            Step::Files(OnFiles::RemoveFile("gone-of-a-test")),
+            SystemStep::Files(OnFiles::RemoveFile("gone-of-a-test")),
         ],
     },
 ];
@@ -354,24 +354,24 @@ fn is_answered_if_open<R: Files<File = File>>(
 fn is_right<'a, R: Files<File = File> + AllocGlobal>(
     rt: &'a R,
     open: &mut Option<SystemFolder<'a, R>>,
-    step: &Step,
+    step: &SystemStep,
 ) -> Result<bool, OutOfMemory> {
     match step {
-        Step::Files(step) => Ok(is_done(rt, step)),
-        Step::Save(save) => is_saved(rt, save),
-        Step::Three(saves) => are_saved(rt, *saves),
-        Step::Open(path) => {
+        SystemStep::Files(step) => Ok(is_done(rt, step)),
+        SystemStep::Save(save) => is_saved(rt, save),
+        SystemStep::Three(saves) => are_saved(rt, *saves),
+        SystemStep::Open(path) => {
             *open = SystemFolder::open(rt.alloc(), rt, *path).ok();
             Ok(open.is_some())
         }
-        Step::Folder(step) => is_answered_if_open(rt.alloc(), open, step),
+        SystemStep::Folder(step) => is_answered_if_open(rt.alloc(), open, step),
     }
 }
 
 // The number of the first step, from 0 on, that answers something else.
 fn wrong_step<R: Files<File = File> + AllocGlobal>(
     rt: &R,
-    steps: &[Step],
+    steps: &[SystemStep],
 ) -> Result<Option<usize>, OutOfMemory> {
     let mut open = None;
     for i in 0..steps.len() {

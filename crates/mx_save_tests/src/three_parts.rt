@@ -32,7 +32,7 @@ const TURNS: usize = 8;
 
 // A part that is out, the name of its body, and what is done with it.
 #[derive(Drop)]
-struct Planned<'a, P: PartFile> {
+struct PlannedPart<'a, P: PartFile> {
     part: OpenPart<P>,
     name: &'a FileName,
     how: How,
@@ -67,9 +67,9 @@ fn give_in_turns<S: Sink>(one: &mut S, two: &mut S, three: &mut S, bodies: &[&[&
 // Does with three parts what is planned, with one after another.
 fn end_all<F: Folder>(
     ledger: &mut Parts<F>,
-    one: Planned<'_, F::Part>,
-    two: Planned<'_, F::Part>,
-    three: Planned<'_, F::Part>,
+    one: PlannedPart<'_, F::Part>,
+    two: PlannedPart<'_, F::Part>,
+    three: PlannedPart<'_, F::Part>,
 ) -> [Told; 3]
     requires one_is_out { Contains ledger.old.out one.part.number }
     requires two_is_out { Contains ledger.old.out two.part.number }
@@ -88,9 +88,9 @@ fn end_all<F: Folder>(
 // The same in that order.
 fn end_in_order<F: Folder>(
     ledger: &mut Parts<F>,
-    one: Planned<'_, F::Part>,
-    two: Planned<'_, F::Part>,
-    three: Planned<'_, F::Part>,
+    one: PlannedPart<'_, F::Part>,
+    two: PlannedPart<'_, F::Part>,
+    three: PlannedPart<'_, F::Part>,
     order: Order,
 ) -> [Told; 3]
     requires one_is_out { Contains ledger.old.out one.part.number }
@@ -141,17 +141,17 @@ fn save_into<F: Folder>(
         &row.bodies,
     );
     let [one, two, three] = row.hows;
-    let first = Planned {
+    let first = PlannedPart {
         part: first,
         name: x,
         how: one,
     };
-    let second = Planned {
+    let second = PlannedPart {
         part: second,
         name: y,
         how: two,
     };
-    let third = Planned {
+    let third = PlannedPart {
         part: third,
         name: z,
         how: three,

@@ -16,7 +16,7 @@ use std::test::Fail;
 
 /// A call, with its expected result.
 #[derive(Clone, Copy)]
-enum Call {
+enum SoloCall {
     /// Adds a GET of the URL under a handle. It has so many milliseconds, and no deadline where these are 0.
     Add(u32, &'static str, u32),
     Remove(u32),
@@ -36,7 +36,7 @@ enum Call {
 struct OneThread {
     name: &'static str,
     gate: Run,
-    calls: &'static [Call],
+    calls: &'static [SoloCall],
 }
 
 /// A link that gives nothing for two turns.
@@ -57,13 +57,13 @@ static ROWS: [OneThread; 8] = [
             ..GATE
         },
         calls: &[
-            Call::Add(1, "http://a.example/one", 0),
-            Call::Add(2, "http://a.example/two", 0),
-            Call::Timeout(0, Some(0)),
-            Call::Perform(0),
-            Call::Read(Wanted::Of(2, Code::Ok, b"hello")),
-            Call::Read(Wanted::Of(1, Code::Ok, b"hello")),
-            Call::Read(Wanted::Nothing),
+            SoloCall::Add(1, "http://a.example/one", 0),
+            SoloCall::Add(2, "http://a.example/two", 0),
+            SoloCall::Timeout(0, Some(0)),
+            SoloCall::Perform(0),
+            SoloCall::Read(Wanted::Of(2, Code::Ok, b"hello")),
+            SoloCall::Read(Wanted::Of(1, Code::Ok, b"hello")),
+            SoloCall::Read(Wanted::Nothing),
         ],
     },
     OneThread {
@@ -73,12 +73,12 @@ static ROWS: [OneThread; 8] = [
             ..GATE
         },
         calls: &[
-            Call::Add(1, "http://a.example/", 0),
-            Call::Perform(1),
-            Call::Timeout(0, None),
-            Call::Read(Wanted::Nothing),
-            Call::Perform(0),
-            Call::Read(Wanted::Of(1, Code::Ok, b"hello")),
+            SoloCall::Add(1, "http://a.example/", 0),
+            SoloCall::Perform(1),
+            SoloCall::Timeout(0, None),
+            SoloCall::Read(Wanted::Nothing),
+            SoloCall::Perform(0),
+            SoloCall::Read(Wanted::Of(1, Code::Ok, b"hello")),
         ],
     },
     // rule turn-gone
@@ -89,12 +89,12 @@ static ROWS: [OneThread; 8] = [
             ..GATE
         },
         calls: &[
-            Call::Add(1, "http://a.example/", 0),
-            Call::Perform(1),
-            Call::Remove(1),
-            Call::Timeout(0, Some(0)),
-            Call::Perform(0),
-            Call::Read(Wanted::Nothing),
+            SoloCall::Add(1, "http://a.example/", 0),
+            SoloCall::Perform(1),
+            SoloCall::Remove(1),
+            SoloCall::Timeout(0, Some(0)),
+            SoloCall::Perform(0),
+            SoloCall::Read(Wanted::Nothing),
         ],
     },
     // rule turn-paused
@@ -105,14 +105,14 @@ static ROWS: [OneThread; 8] = [
             ..GATE
         },
         calls: &[
-            Call::Add(1, "http://a.example/", 0),
-            Call::Pause(1),
-            Call::Perform(1),
-            Call::Timeout(0, None),
-            Call::Unpause(1),
-            Call::Timeout(0, Some(0)),
-            Call::Perform(0),
-            Call::Read(Wanted::Of(1, Code::Ok, b"hello")),
+            SoloCall::Add(1, "http://a.example/", 0),
+            SoloCall::Pause(1),
+            SoloCall::Perform(1),
+            SoloCall::Timeout(0, None),
+            SoloCall::Unpause(1),
+            SoloCall::Timeout(0, Some(0)),
+            SoloCall::Perform(0),
+            SoloCall::Read(Wanted::Of(1, Code::Ok, b"hello")),
         ],
     },
     OneThread {
@@ -123,13 +123,13 @@ static ROWS: [OneThread; 8] = [
             ..GATE
         },
         calls: &[
-            Call::Add(1, "http://a.example/", 5),
-            Call::Perform(1),
-            Call::Timeout(100, Some(5)),
-            Call::Timeout(103, Some(2)),
-            Call::Timeout(200, Some(0)),
-            Call::Perform(0),
-            Call::Read(Wanted::Of(1, Code::OperationTimedout, b"")),
+            SoloCall::Add(1, "http://a.example/", 5),
+            SoloCall::Perform(1),
+            SoloCall::Timeout(100, Some(5)),
+            SoloCall::Timeout(103, Some(2)),
+            SoloCall::Timeout(200, Some(0)),
+            SoloCall::Perform(0),
+            SoloCall::Read(Wanted::Of(1, Code::OperationTimedout, b"")),
         ],
     },
     OneThread {
@@ -139,9 +139,9 @@ static ROWS: [OneThread; 8] = [
             ..GATE
         },
         calls: &[
-            Call::Add(1, "http://a.example/", 0),
-            Call::Perform(0),
-            Call::Read(Wanted::Of(1, Code::CouldntResolveHost, b"")),
+            SoloCall::Add(1, "http://a.example/", 0),
+            SoloCall::Perform(0),
+            SoloCall::Read(Wanted::Of(1, Code::CouldntResolveHost, b"")),
         ],
     },
     OneThread {
@@ -151,13 +151,13 @@ static ROWS: [OneThread; 8] = [
             ..GATE
         },
         calls: &[
-            Call::Add(1, "http://a.example/one", 0),
-            Call::Perform(1),
-            Call::Remove(1),
-            Call::Add(1, "http://a.example/two", 0),
-            Call::Perform(0),
-            Call::Read(Wanted::Of(1, Code::Ok, b"hello")),
-            Call::Read(Wanted::Nothing),
+            SoloCall::Add(1, "http://a.example/one", 0),
+            SoloCall::Perform(1),
+            SoloCall::Remove(1),
+            SoloCall::Add(1, "http://a.example/two", 0),
+            SoloCall::Perform(0),
+            SoloCall::Read(Wanted::Of(1, Code::Ok, b"hello")),
+            SoloCall::Read(Wanted::Nothing),
         ],
     },
     OneThread {
@@ -167,15 +167,15 @@ static ROWS: [OneThread; 8] = [
             ..GATE
         },
         calls: &[
-            Call::Retire(0),
-            Call::Add(1, "http://a.example/", 0),
-            Call::Perform(1),
-            Call::Retire(1),
-            Call::Perform(0),
-            Call::Retire(2),
-            Call::Read(Wanted::Of(1, Code::Ok, b"hello")),
-            Call::Remove(1),
-            Call::Retire(0),
+            SoloCall::Retire(0),
+            SoloCall::Add(1, "http://a.example/", 0),
+            SoloCall::Perform(1),
+            SoloCall::Retire(1),
+            SoloCall::Perform(0),
+            SoloCall::Retire(2),
+            SoloCall::Read(Wanted::Of(1, Code::Ok, b"hello")),
+            SoloCall::Remove(1),
+            SoloCall::Retire(0),
         ],
     },
 ];
@@ -200,17 +200,17 @@ fn make(
     solo: &mut Solo<ScriptLink>,
     gate: &mut ScriptGate<ScriptLink>,
     alloc: Global,
-    call: Call,
+    call: SoloCall,
 ) -> Result<(), Trouble> {
     match call {
-        Call::Add(handle, url, timeout_ms) => add(solo, alloc, handle, url, timeout_ms),
-        Call::Remove(handle) => holds(solo.remove(HandleId(handle)) == RemoveReply::Removed),
-        Call::Pause(handle) => holds(solo.pause(HandleId(handle)) == PauseReply::Changed),
-        Call::Unpause(handle) => holds(solo.unpause(HandleId(handle)) == PauseReply::Changed),
-        Call::Perform(running) => holds(solo.perform(gate) == running),
-        Call::Timeout(now, wait) => holds(solo.timeout(now) == wait),
-        Call::Read(wanted) => compare(&solo.info_read(), wanted),
-        Call::Retire(kept) => holds(solo.retire() == kept),
+        SoloCall::Add(handle, url, timeout_ms) => add(solo, alloc, handle, url, timeout_ms),
+        SoloCall::Remove(handle) => holds(solo.remove(HandleId(handle)) == RemoveReply::Removed),
+        SoloCall::Pause(handle) => holds(solo.pause(HandleId(handle)) == PauseReply::Changed),
+        SoloCall::Unpause(handle) => holds(solo.unpause(HandleId(handle)) == PauseReply::Changed),
+        SoloCall::Perform(running) => holds(solo.perform(gate) == running),
+        SoloCall::Timeout(now, wait) => holds(solo.timeout(now) == wait),
+        SoloCall::Read(wanted) => compare(&solo.info_read(), wanted),
+        SoloCall::Retire(kept) => holds(solo.retire() == kept),
     }
 }
 
