@@ -1,8 +1,9 @@
-//! The body of an outcome, read in pieces.
-ghost use Rattle.std.specs.Prelude.{◌≡◌, ◌≤◌, ◌-◌, ◌++◌, drop, length, min, take};
-ghost use Rattle.mx_embedded.specs.Contents.{IsCopied, body_of};
+//! What an outcome has as bytes, read in pieces.
+ghost use Rattle.std.specs.Prelude.{◌≡◌, ◌≤◌, ◌-◌, ◌++◌, drop, length, min, option_copied, take};
+ghost use Rattle.mx_chain.specs.Outcomes.{wire_at};
+ghost use Rattle.mx_embedded.specs.Contents.{AreHeadsCopied, IsCopied, IsCopiedFrom, body_of, request_at};
 
-use crate::copies::copy_from;
+use crate::copies::{copy_from, copy_some};
 use mx_transfer_core::Outcome;
 use std::marker::Model;
 
@@ -66,6 +67,39 @@ impl Ended {
         ensures { result.now ≡ self.now }
     {
         &self.outcome
+    }
+
+    // The request of a hop.
+    fn request_at(&self, hop: usize) -> Option<&[u8]>
+        ensures { option_copied result ≡ request_at self.now hop }
+    {
+        match self.outcome.hop_request(hop) {
+            Some(request) => Some(request.bytes()),
+            None => None,
+        }
+    }
+
+    /// Copies the request of a hop, counted from 0, its head and its body, from that place on, as much as there is room for. The answer is how
+    /// many bytes: none behind its end, and where there is no such hop.
+    pub fn read_request(&self, hop: usize, from: u64, out: &mut [u8]) -> usize
+        ensures { IsCopiedFrom (request_at self.now hop) from out.old out.new result }
+    {
+        copy_some(self.request_at(hop), from, out)
+    }
+
+    /// Copies the heads of the response of a hop, likewise: its interim heads and its final head (RFC 9112, section 2.1), and no bytes where
+    /// it has no final head.
+    pub fn read_heads(&self, hop: usize, from: u64, out: &mut [u8]) -> usize
+        ensures { AreHeadsCopied self.now hop from out.old out.new result }
+    {
+        copy_some(self.outcome.hop_heads(hop), from, out)
+    }
+
+    /// Copies all bytes of the response of a hop, likewise, where memory has them.
+    pub fn read_wire(&self, hop: usize, from: u64, out: &mut [u8]) -> usize
+        ensures { IsCopiedFrom (wire_at self.now hop) from out.old out.new result }
+    {
+        copy_some(self.outcome.hop_wire(hop), from, out)
     }
 
     /// Copies the body from that place on, as much as there is room for. The answer is how many bytes: none behind its end, and where the

@@ -9,6 +9,5 @@ mod multi;
 mod requests;
 
 pub use crate::content::Ended;
-pub use crate::copies::copy_from;
 pub use crate::multi::{HostLink, SocketMulti};
 pub use crate::requests::{Words, request_of};

@@ -1,6 +1,9 @@
 //! A multi handle over sockets.
-ghost use Rattle.std.specs.Prelude.{◌≡◌, length};
+ghost use Rattle.std.specs.Prelude.{◌≡◌, All, IfOk, length};
 ghost use Rattle.mx_types.specs.Limits.{IsHistory};
+ghost use Rattle.mx_history.specs.History.{running};
+ghost use Rattle.mx_turn.specs.Workers.{starts};
+ghost use Rattle.mx_solo.specs.Seats.{Performs, WaitsNoLonger, new_core};
 
 use mx_gate::{Gate, SocketGate, SocketLink};
 use mx_host::Host;
@@ -47,6 +50,7 @@ impl SocketMulti {
     /// `CouldntConnect` comes where the system gives no poll or no clock, `OutOfMemory` where memory is refused.
     pub fn open(alloc: Global, history: u32, max_connects: u8) -> Result<SocketMulti, Code>
         requires { IsHistory history }
+        ensures { IfOk result (λ m. (m.solo.core ≡ new_core history) × (m.solo.worker ≡ starts max_connects)) }
     {
         let gate = gate_of(alloc)?;
         match Solo::new(alloc, history, max_connects) {
@@ -59,13 +63,20 @@ impl SocketMulti {
     }
 
     /// Looks at the sockets, and takes turns (`Solo::perform`). The answer is how many transfers run then.
-    pub fn perform(&mut self) -> u32 {
+    pub fn perform(&mut self) -> u32
+        ensures performs { Performs (λ link. link.history) (λ link. link.link.token) self.old.solo self.new.solo self.old.gate.said self.new.gate.said }
+        ensures origins { self.new.solo.core.origins ≡ self.old.solo.core.origins }
+        ensures runs { result ≡ length (running self.new.solo.core.journal) }
+    {
         self.gate.look_now();
         self.solo.perform(&mut self.gate)
     }
 
     /// How many milliseconds a wait for the gate's descriptor may last (`Solo::timeout`).
-    pub fn timeout(&mut self) -> Option<u64> {
+    pub fn timeout(&mut self) -> Option<u64>
+        ensures wait { All (λ h. WaitsNoLonger result self.new.gate.latest h.transfer.now.deadline) self.old.solo.worker.held }
+        ensures same { self.new.solo ≡ self.old.solo }
+    {
         let now = self.gate.now();
         self.solo.timeout(now)
     }

@@ -1,6 +1,6 @@
 //! Requests from bytes.
-ghost use Rattle.std.specs.Prelude.{◌≡◌, IfOk};
-ghost use Rattle.mx_request.specs.Request.{IsRequest};
+ghost use Rattle.std.specs.Prelude.{IfOk, option_copied};
+ghost use Rattle.mx_embedded.specs.Words.{AreSettings, IsRequestOf};
 
 use crate::fields::{copy_bytes, put_fields};
 use mx_request::Request;
@@ -24,28 +24,28 @@ pub struct Words<'b> {
 
 // The settings of a request.
 fn settings_of(alloc: Global, words: Words<'_>) -> Result<Settings, Code>
-    ensures { IfOk result (λ s. s.timeout_ms ≡ words.entry.timeout_ms) }
+    ensures { IfOk result (AreSettings words.entry.fields.now (option_copied words.entry.body) words.entry.timeout_ms words.entry.max_redirects) }
 {
+    let Ok(fields) = std::str::from_utf8(words.fields) else {
+        return Err(Code::UrlMalformat);
+    };
     let mut settings = Settings::new(alloc);
-    put_fields(alloc, &mut settings, words.fields)?;
+    put_fields(alloc, &mut settings, fields)?;
+    settings.body = match words.body {
+        Some(body) => Some(copy_bytes(alloc, body)?),
+        None => None,
+    };
     settings.timeout_ms = words.timeout_ms;
     settings.max_redirects = u8::try_from(words.max_redirects).unwrap_or(u8::MAX);
-    if let Some(body) = words.body {
-        match copy_bytes(alloc, body) {
-            Ok(copy) => settings.body = Some(copy),
-            Err(_) => return Err(Code::OutOfMemory),
-        }
-    }
     Ok(settings)
 }
 
 /// The request, by `Request::build`, with the URL in the text.
 ///
 /// Where it can't be built the error is the code of `RequestError`; `UnsupportedProtocol` where the method is none of the six, `UrlMalformat`
-/// where the URL or a field isn't UTF-8, or a line of the fields has no colon.
+/// where the URL or the fields aren't UTF-8, or a line of the fields has no colon.
 pub fn request_of(alloc: Global, words: Words<'_>) -> Result<Request, Code>
-    ensures request { IfOk result IsRequest }
-    ensures time { IfOk result (λ r. r.timeout_ms ≡ words.entry.timeout_ms) }
+    ensures { IfOk result (IsRequestOf words.entry.method.now words.entry.url.now words.entry.fields.now (option_copied words.entry.body) words.entry.timeout_ms words.entry.max_redirects) }
 {
     let Ok(Ok(method)) = std::str::from_utf8(words.method).map(|text| text.parse::<Method>()) else {
         return Err(Code::UnsupportedProtocol);
@@ -55,11 +55,7 @@ pub fn request_of(alloc: Global, words: Words<'_>) -> Result<Request, Code>
     };
     let settings = settings_of(alloc, words)?;
     match Request::build(alloc, method, url, settings) {
-        Ok(request) => {
-            // proof: what holds of every request
-            request.know();
-            Ok(request)
-        }
+        Ok(request) => Ok(request),
         Err(refused) => Err(refused.code()),
     }
 }

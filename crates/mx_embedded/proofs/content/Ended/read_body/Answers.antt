@@ -11,7 +11,7 @@ returns-then-copied-saturating_sub-clause-copied c =
     let part = c.in-Some.ensures.some (omega (arith, i.1, i.2, c.loop-test.true)) in
     let bytes = slice_range c.loop.self-inside.outcome.wire part.0.start part.0.end in
     let same : c.in-Some.part.now ≡ bytes = part.2 in
-    let long : length c.in-Some.part.now ≡ length bytes = ap length same in
+    let long : length c.in-Some.part.now ≡ length bytes = ap length {y = bytes} same in
     let copied = rw same at c.copy_behind-copied.ensures.copied in
     let count = rw same at c.copy_behind-copied.ensures.count in
     let less : c.copy_behind-copied.result < length bytes - c.loop.skip = omega (arith, c.if-copied-saturating_sub.true, c.saturating_sub.ensures, long) in
@@ -22,7 +22,8 @@ pub overflow_add-self : goal.overflow_add-self
 overflow_add-self c =
     let i = c.loop.invariant in
     let part = c.in-Some.ensures.some (omega (arith, i.1, i.2, c.loop-test.true)) in
-    omega (arith, i.3.begins, ap length part.2, ends_within c.loop.self-inside.outcome c.loop.self-inside.part part.0 part.1, c.body_len-len.ensures, c.body_len-len.type_inv, ap (λ (o : OutcomeValue). length (body_of o)) c.self.view_is, ap (λ (o : OutcomeValue). length (body_of o)) i.0)
+    let bytes = slice_range c.loop.self-inside.outcome.wire part.0.start part.0.end in
+    omega (arith, i.3.begins, ap length {y = bytes} part.2, ends_within c.loop.self-inside.outcome c.loop.self-inside.part part.0 part.1, c.body_len-len.ensures, c.body_len-len.type_inv, ap (λ (o : OutcomeValue). length (body_of o)) c.self.view_is, ap (λ (o : OutcomeValue). length (body_of o)) i.0)
 
 pub loop-preserved : goal.loop-preserved
 loop-preserved c =
@@ -30,7 +31,7 @@ loop-preserved c =
     let part = c.in-Some.ensures.some (omega (arith, i.1, i.2, c.loop-test.true)) in
     let bytes = slice_range c.loop.self-inside.outcome.wire part.0.start part.0.end in
     let same : c.in-Some.part.now ≡ bytes = part.2 in
-    let long : length c.in-Some.part.now ≡ length bytes = ap length same in
+    let long : length c.in-Some.part.now ≡ length bytes = ap length {y = bytes} same in
     let copied = rw same at c.copy_behind-copied.ensures.copied in
     let count = rw same at c.copy_behind-copied.ensures.count in
     let all : length bytes - c.loop.skip ≤ c.copy_behind-copied.result = omega (arith, c.if-copied-saturating_sub.false, c.saturating_sub.ensures, long) in
