@@ -1,1 +1,2 @@
+mod AnswerLemmas
 pub mod HandleValues

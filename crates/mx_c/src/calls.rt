@@ -1,6 +1,14 @@
 //! What the exports do, with what their handles lead to.
+ghost use Rattle.std.specs.Prelude.{◌≡◌, ◌++◌, ◌⊎◌, ℕ, Option, IfErr, IfOk, drop, length, map, option_copied, take};
+ghost use Rattle.std.specs.List.{All};
+ghost use Rattle.mx_request.specs.Request.{RequestValue};
+ghost use Rattle.mx_history.specs.Answers.{state_of};
+ghost use Rattle.mx_history.specs.History.{added};
+ghost use Rattle.mx_solo.specs.Seats.{WaitsNoLonger};
+ghost use Rattle.mx_embedded.specs.Words.{IsRequestOf};
+ghost use Rattle.mx_c.specs.Answers.{Adds, AnswersRead, AnswersTimeout, IsFirstEnding, IsTicketTold, Reads, body_by, result_number, told_state, wait_number};
 
-use crate::codes::{BAD_ARGUMENT, EMPTY, OUT_OF_MEMORY, code_of_add, numbers_of};
+use crate::codes::{BAD_ARGUMENT, EMPTY, OUT_OF_MEMORY, code_of_add, told_state, wait_number};
 use crate::objects::{Object, name_link};
 use crate::structs::{mx_how, mx_message, mx_state};
 use mx_embedded::{Ended, HostLink, SocketMulti, Words, request_of};
@@ -30,7 +38,10 @@ pub(crate) fn open(alloc: Global, history: u32, max_connects: u32) -> Result<Box
 }
 
 /// A box of it.
-pub(crate) fn in_box(alloc: Global, object: Object) -> Result<Box<Object>, u32> {
+pub(crate) fn in_box(alloc: Global, object: Object) -> Result<Box<Object>, u32>
+    ensures object { IfOk result (λ boxed. boxed.value ≡ object) }
+    ensures memory { IfErr result (λ code. code ≡ 3) }
+{
     // proof: the type of the links
     name_link::<HostLink>();
     match Box::new(alloc, object) {
@@ -42,6 +53,15 @@ pub(crate) fn in_box(alloc: Global, object: Object) -> Result<Box<Object>, u32> 
     }
 }
 
+// Tells the ticket of an addition that was taken.
+fn tell_ticket<Q: Drop>(reply: &AddReply<Q>, ticket: &mut u32)
+    ensures { IsTicketTold reply.now ticket.old ticket.new }
+{
+    if let AddReply::Added(Ticket(given)) = reply {
+        *ticket = *given;
+    }
+}
+
 // Adds a transfer of the request, and tells its ticket.
 fn add(
     alloc: Global,
@@ -49,13 +69,13 @@ fn add(
     handle: u32,
     request: Request,
     ticket: &mut u32,
-) -> u32 {
+) -> u32
+    ensures { (result ≡ 3) ⊎ Adds handle request ticket.old ticket.new multi.old.solo.core multi.new.solo.core result }
+{
     match Queued::new(alloc, request) {
         Ok(work) => {
             let reply = multi.solo.add(HandleId(handle), work);
-            if let AddReply::Added(Ticket(given)) = &reply {
-                *ticket = *given;
-            }
+            tell_ticket(&reply, ticket);
             code_of_add(&reply)
         }
         Err(refused) => {
@@ -72,7 +92,11 @@ pub(crate) fn words_of<'b>(
     fields: &'b [u8],
     body: &'b [u8],
     how: &mx_how,
-) -> Words<'b> {
+) -> Words<'b>
+    ensures text { (result.method.now ≡ method.now) × (result.url.now ≡ url.now) × (result.fields.now ≡ fields.now) }
+    ensures body { option_copied result.body ≡ body_by how.now.flags body.now }
+    ensures numbers { (result.timeout_ms ≡ how.now.timeout_ms) × (result.max_redirects ≡ how.now.max_redirects) }
+{
     Words {
         method,
         url,
@@ -95,7 +119,11 @@ pub(crate) fn build_and_add(
     words: Words<'_>,
     ticket: &mut u32,
     refused: &mut u32,
-) -> u32 {
+) -> u32
+    ensures { (result ≡ 3) ⊎ ((result ≡ 110) ⊎ ((request : RequestValue)
+        × IsRequestOf words.entry.method.now words.entry.url.now words.entry.fields.now (option_copied words.entry.body) words.entry.timeout_ms words.entry.max_redirects request
+        × Adds handle request ticket.old ticket.new multi.old.solo.core multi.new.solo.core result)) }
+{
     // proof: the type of the links
     name_link::<HostLink>();
     match request_of(alloc, words) {
@@ -109,7 +137,10 @@ pub(crate) fn build_and_add(
 }
 
 // Reads a message, and hands its outcome over.
-fn read(multi: &mut SocketMulti, message: &mut mx_message) -> Result<Ended, u32> {
+fn read(multi: &mut SocketMulti, message: &mut mx_message) -> Result<Ended, u32>
+    ensures read { Reads multi.old.solo.core multi.new.solo.core message.old message.new (result_number result) }
+    ensures first { IfOk result (IsFirstEnding multi.old.solo.core) }
+{
     // proof: the type of the links
     name_link::<HostLink>();
     match multi.solo.info_read() {
@@ -132,12 +163,10 @@ fn read(multi: &mut SocketMulti, message: &mut mx_message) -> Result<Ended, u32>
     }
 }
 
-/// Reads a message of the multi handle, with its outcome in the other.
-pub(crate) fn read_into(
-    object: &mut Object,
-    message: &mut mx_message,
-    ended: &mut Object,
-) -> Result<(), u32> {
+// Reads a message of the multi handle, with its outcome in the other.
+fn read_into(object: &mut Object, message: &mut mx_message, ended: &mut Object) -> Result<(), u32>
+    ensures { AnswersRead object.old message.old message.new (result_number result) }
+{
     // proof: the type of the links
     name_link::<HostLink>();
     match object {
@@ -150,35 +179,74 @@ pub(crate) fn read_into(
     }
 }
 
-/// The state of a handle.
-pub(crate) fn state_of(multi: &SocketMulti, handle: u32) -> mx_state {
+/// Reads a message of the multi handle, with its outcome in a box.
+#[tactic(auto, using(crate::proofs::AnswerLemmas::without_memory))]
+pub(crate) fn read_boxed(
+    alloc: Global,
+    object: &mut Object,
+    message: &mut mx_message,
+) -> Result<Box<Object>, u32>
+    ensures { AnswersRead object.old message.old message.new (result_number result) }
+{
     // proof: the type of the links
     name_link::<HostLink>();
-    let (state, ticket, code) = numbers_of(multi.solo.state(HandleId(handle)));
-    mx_state {
-        state,
-        ticket,
-        code,
+    let mut ended = in_box(alloc, Object::Outcome(None))?;
+    match read_into(object, message, &mut ended) {
+        Ok(()) => Ok(ended),
+        Err(code) => {
+            drop(ended);
+            Err(code)
+        }
     }
 }
 
-/// How many milliseconds a wait may last; -1 where nothing but the descriptor ends it.
-pub(crate) fn timeout_of(multi: &mut SocketMulti) -> i64 {
+/// The state of a handle.
+pub(crate) fn state_of(multi: &SocketMulti, handle: u32) -> mx_state
+    ensures { result ≡ told_state (state_of (record { 0 = handle }) multi.now.solo.core.journal) }
+{
     // proof: the type of the links
     name_link::<HostLink>();
-    match multi.timeout() {
-        Some(ms) => i64::try_from(ms).unwrap_or(i64::MAX),
-        None => -1,
+    told_state(multi.solo.state(HandleId(handle)))
+}
+
+// How many milliseconds a wait may last; -1 where nothing but the descriptor ends it.
+fn wait_of(multi: &mut SocketMulti) -> i64
+    ensures { (wait : Option ℕ) × (latest : ℕ) × All (λ h. WaitsNoLonger wait latest h.transfer.now.deadline) multi.old.solo.worker.held × (result ≡ wait_number wait) }
+{
+    // proof: the type of the links
+    name_link::<HostLink>();
+    wait_number(multi.timeout())
+}
+
+/// The same of the multi handle that it is; -1 of an outcome.
+pub(crate) fn timeout_of(object: &mut Object) -> i64
+    ensures { AnswersTimeout object.old result }
+{
+    // proof: the type of the links
+    name_link::<HostLink>();
+    match object {
+        Object::Multi(multi) => wait_of(multi),
+        Object::Outcome(_) => -1,
+    }
+}
+
+// Writes the numbers of the handles, as many as there is room for.
+fn write_all(handles: &[HandleId], out: &mut [u32])
+    ensures { out.new ≡ take (length out.old) (map (λ h. h.0) handles.now) ++ drop (length handles.now) out.old }
+{
+    for at in 0..handles.len().min(out.len()) {
+        out[at] = handles[at].0;
     }
 }
 
 /// Writes the handles that are added, as many as there is room for. The answer is how many are added.
-pub(crate) fn handles_of(multi: &SocketMulti, out: &mut [u32]) -> u32 {
+pub(crate) fn handles_of(multi: &SocketMulti, out: &mut [u32]) -> u32
+    ensures count { result ≡ length (added multi.now.solo.core.journal) }
+    ensures written { out.new ≡ take (length out.old) (map (λ h. h.0) (map (λ a. a.handle) (added multi.now.solo.core.journal))) ++ drop result out.old }
+{
     // proof: the type of the links
     name_link::<HostLink>();
     let handles = multi.solo.handles();
-    for (place, handle) in out.iter_mut().zip(handles.as_slice()) {
-        *place = handle.0;
-    }
+    write_all(handles.as_slice(), out);
     handles.as_slice().len() as u32
 }

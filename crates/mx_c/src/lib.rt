@@ -1,6 +1,14 @@
 //! The multi handle on one thread, for C: what c/mx_multi.h declares.
 #![tactic(auto)]
 
+ghost use Rattle.std.specs.Prelude.{◌≡◌, MatchOption, option_map};
+ghost use Rattle.std.specs.Option.{option_map_or};
+ghost use Rattle.mx_chain.specs.Outcomes.{wire_at};
+ghost use Rattle.mx_embedded.specs.Contents.{AreHeadsCopied, IsCopiedFrom, body_of, request_at};
+ghost use Rattle.mx_types.specs.declared.call.Call.TheVariants as call;
+ghost use Rattle.mx_embedded.specs.Words.{IsRequestOf};
+ghost use Rattle.mx_c.specs.Answers.{AnswersAdd, AnswersCall, AnswersPerform, AnswersRead, AnswersTimeout, IsEndOf, TellsHandles, TellsState, body_by, ended_of, status_at};
+
 mod calls;
 mod codes;
 mod handles;
@@ -8,14 +16,12 @@ mod objects;
 mod outcomes;
 mod structs;
 
-use crate::calls::{
-    build_and_add, handles_of, in_box, open, read_into, state_of, timeout_of, words_of,
-};
+use crate::calls::{build_and_add, handles_of, open, read_boxed, state_of, timeout_of, words_of};
 use crate::codes::{BAD_ARGUMENT, OK, code_of_pause, code_of_remove};
 use crate::handles::leave;
 pub use crate::handles::{Handle, Opaque};
 use crate::objects::{Object, name_link};
-use crate::outcomes::{body_of, end_of, heads_of, request_of_hop, status_of, wire_of};
+use crate::outcomes::{end_of, status_of};
 pub use crate::structs::{mx_end, mx_how, mx_message, mx_state};
 use mx_embedded::HostLink;
 use mx_types::HandleId;
@@ -78,7 +84,9 @@ pub extern "C" fn mx_multi_add(
     how: &mx_how,
     ticket: &mut u32,
     refused: &mut u32,
-) -> u32 {
+) -> u32
+    ensures { AnswersAdd handle (IsRequestOf method.now url.now fields.now (body_by how.now.flags body.now) how.now.timeout_ms how.now.max_redirects) multi.content ticket.old ticket.new result }
+{
     // proof: the type of the links
     name_link::<HostLink>();
     let mut object = multi.into_box();
@@ -93,7 +101,9 @@ pub extern "C" fn mx_multi_add(
 
 /// Removes a handle, whether its transfer runs or is done.
 #[unsafe(no_mangle)]
-pub extern "C" fn mx_multi_remove(multi: Handle, handle: u32) -> u32 {
+pub extern "C" fn mx_multi_remove(multi: Handle, handle: u32) -> u32
+    ensures { AnswersCall (call.Remove (record { 0 = handle })) multi.content result }
+{
     // proof: the type of the links
     name_link::<HostLink>();
     let mut object = multi.into_box();
@@ -107,7 +117,9 @@ pub extern "C" fn mx_multi_remove(multi: Handle, handle: u32) -> u32 {
 
 /// Pauses a handle's transfer.
 #[unsafe(no_mangle)]
-pub extern "C" fn mx_multi_pause(multi: Handle, handle: u32) -> u32 {
+pub extern "C" fn mx_multi_pause(multi: Handle, handle: u32) -> u32
+    ensures { AnswersCall (call.Pause (record { 0 = handle })) multi.content result }
+{
     // proof: the type of the links
     name_link::<HostLink>();
     let mut object = multi.into_box();
@@ -121,7 +133,9 @@ pub extern "C" fn mx_multi_pause(multi: Handle, handle: u32) -> u32 {
 
 /// Resumes a handle's transfer.
 #[unsafe(no_mangle)]
-pub extern "C" fn mx_multi_unpause(multi: Handle, handle: u32) -> u32 {
+pub extern "C" fn mx_multi_unpause(multi: Handle, handle: u32) -> u32
+    ensures { AnswersCall (call.Unpause (record { 0 = handle })) multi.content result }
+{
     // proof: the type of the links
     name_link::<HostLink>();
     let mut object = multi.into_box();
@@ -135,7 +149,9 @@ pub extern "C" fn mx_multi_unpause(multi: Handle, handle: u32) -> u32 {
 
 /// Goes on with all transfers as far as that is possible without a wait.
 #[unsafe(no_mangle)]
-pub extern "C" fn mx_multi_perform(multi: Handle, running: &mut u32) -> u32 {
+pub extern "C" fn mx_multi_perform(multi: Handle, running: &mut u32) -> u32
+    ensures { AnswersPerform multi.content running.old running.new result }
+{
     // proof: the type of the links
     name_link::<HostLink>();
     let mut object = multi.into_box();
@@ -166,14 +182,13 @@ pub extern "C" fn mx_multi_fd(multi: Handle) -> i32 {
 
 /// How long a wait may last.
 #[unsafe(no_mangle)]
-pub extern "C" fn mx_multi_timeout(multi: Handle) -> i64 {
+pub extern "C" fn mx_multi_timeout(multi: Handle) -> i64
+    ensures { AnswersTimeout multi.content result }
+{
     // proof: the type of the links
     name_link::<HostLink>();
     let mut object = multi.into_box();
-    let timeout = match &mut *object {
-        Object::Multi(multi) => timeout_of(multi),
-        Object::Outcome(_) => -1,
-    };
+    let timeout = timeout_of(&mut object);
     leave(object);
     timeout
 }
@@ -185,21 +200,17 @@ pub extern "C" fn mx_multi_info_read(
     multi: Handle,
     message: &mut mx_message,
     outcome: &mut *mut Opaque,
-) -> u32 {
+) -> u32
+    ensures { AnswersRead multi.content message.old message.new result }
+{
     // proof: the type of the links
     name_link::<HostLink>();
     let mut object = multi.into_box();
-    let code = match in_box(alloc, Object::Outcome(None)) {
-        Ok(mut ended) => match read_into(&mut object, message, &mut ended) {
-            Ok(()) => {
-                *outcome = Handle::of(ended).into_raw();
-                OK
-            }
-            Err(code) => {
-                drop(ended);
-                code
-            }
-        },
+    let code = match read_boxed(alloc, &mut object, message) {
+        Ok(ended) => {
+            *outcome = Handle::of(ended).into_raw();
+            OK
+        }
         Err(code) => code,
     };
     leave(object);
@@ -208,7 +219,9 @@ pub extern "C" fn mx_multi_info_read(
 
 /// The state of a handle.
 #[unsafe(no_mangle)]
-pub extern "C" fn mx_multi_state(multi: Handle, handle: u32, state: &mut mx_state) -> u32 {
+pub extern "C" fn mx_multi_state(multi: Handle, handle: u32, state: &mut mx_state) -> u32
+    ensures { TellsState (record { 0 = handle }) multi.content state.old state.new result }
+{
     // proof: the type of the links
     name_link::<HostLink>();
     let object = multi.into_box();
@@ -225,7 +238,9 @@ pub extern "C" fn mx_multi_state(multi: Handle, handle: u32, state: &mut mx_stat
 
 /// The handles that are added, in the order of their addition, and how many they are.
 #[unsafe(no_mangle)]
-pub extern "C" fn mx_multi_handles(multi: Handle, handles: &mut [u32]) -> u32 {
+pub extern "C" fn mx_multi_handles(multi: Handle, handles: &mut [u32]) -> u32
+    ensures { TellsHandles multi.content handles.old handles.new result }
+{
     // proof: the type of the links
     name_link::<HostLink>();
     let object = multi.into_box();
@@ -239,13 +254,15 @@ pub extern "C" fn mx_multi_handles(multi: Handle, handles: &mut [u32]) -> u32 {
 
 /// What an outcome tells in numbers.
 #[unsafe(no_mangle)]
-pub extern "C" fn mx_outcome_end(outcome: Handle, end: &mut mx_end) -> u32 {
+pub extern "C" fn mx_outcome_end(outcome: Handle, end: &mut mx_end) -> u32
+    ensures { MatchOption (ended_of outcome.content) ((result ≡ 110) × (end.new ≡ end.old)) (λ o. (result ≡ 0) × IsEndOf o end.new) }
+{
     // proof: the type of the links
     name_link::<HostLink>();
     let object = outcome.into_box();
-    let code = match end_of(&object) {
-        Some(told) => {
-            *end = told;
+    let code = match object.ended() {
+        Some(ended) => {
+            *end = end_of(ended);
             OK
         }
         None => BAD_ARGUMENT,
@@ -256,57 +273,79 @@ pub extern "C" fn mx_outcome_end(outcome: Handle, end: &mut mx_end) -> u32 {
 
 /// The status of a hop's response.
 #[unsafe(no_mangle)]
-pub extern "C" fn mx_outcome_status(outcome: Handle, hop: u32) -> u32 {
+pub extern "C" fn mx_outcome_status(outcome: Handle, hop: u32) -> u32
+    ensures { result ≡ option_map_or (λ o. status_at o hop) (ended_of outcome.content) 0 }
+{
     // proof: the type of the links
     name_link::<HostLink>();
     let object = outcome.into_box();
-    let status = status_of(&object, hop);
+    let status = match object.ended() {
+        Some(ended) => status_of(ended, hop),
+        None => 0,
+    };
     leave(object);
     status
 }
 
 /// The request of a hop.
 #[unsafe(no_mangle)]
-pub extern "C" fn mx_outcome_request(outcome: Handle, hop: u32, from: u64, out: &mut [u8]) -> u64 {
+pub extern "C" fn mx_outcome_request(outcome: Handle, hop: u32, from: u64, out: &mut [u8]) -> u64
+    ensures { MatchOption (ended_of outcome.content) ((result ≡ 0) × (out.new ≡ out.old)) (λ o. IsCopiedFrom (request_at o hop) from out.old out.new result) }
+{
     // proof: the type of the links
     name_link::<HostLink>();
     let object = outcome.into_box();
-    let copied = request_of_hop(&object, hop, from, out);
+    let copied = match object.ended() {
+        Some(ended) => ended.read_request(hop as usize, from, out),
+        None => 0,
+    };
     leave(object);
-    copied
+    copied as u64
 }
 
 /// The heads of a hop's response.
 #[unsafe(no_mangle)]
-pub extern "C" fn mx_outcome_heads(outcome: Handle, hop: u32, from: u64, out: &mut [u8]) -> u64 {
+pub extern "C" fn mx_outcome_heads(outcome: Handle, hop: u32, from: u64, out: &mut [u8]) -> u64
+    ensures { MatchOption (ended_of outcome.content) ((result ≡ 0) × (out.new ≡ out.old)) (λ o. AreHeadsCopied o hop from out.old out.new result) }
+{
     // proof: the type of the links
     name_link::<HostLink>();
     let object = outcome.into_box();
-    let copied = heads_of(&object, hop, from, out);
+    let copied = match object.ended() {
+        Some(ended) => ended.read_heads(hop as usize, from, out),
+        None => 0,
+    };
     leave(object);
-    copied
+    copied as u64
 }
 
 /// All bytes of a hop's response.
 #[unsafe(no_mangle)]
-pub extern "C" fn mx_outcome_wire(outcome: Handle, hop: u32, from: u64, out: &mut [u8]) -> u64 {
+pub extern "C" fn mx_outcome_wire(outcome: Handle, hop: u32, from: u64, out: &mut [u8]) -> u64
+    ensures { MatchOption (ended_of outcome.content) ((result ≡ 0) × (out.new ≡ out.old)) (λ o. IsCopiedFrom (wire_at o hop) from out.old out.new result) }
+{
     // proof: the type of the links
     name_link::<HostLink>();
     let object = outcome.into_box();
-    let copied = wire_of(&object, hop, from, out);
+    let copied = match object.ended() {
+        Some(ended) => ended.read_wire(hop as usize, from, out),
+        None => 0,
+    };
     leave(object);
-    copied
+    copied as u64
 }
 
 /// The body.
 #[unsafe(no_mangle)]
-pub extern "C" fn mx_outcome_body(outcome: Handle, from: u64, out: &mut [u8]) -> u64 {
+pub extern "C" fn mx_outcome_body(outcome: Handle, from: u64, out: &mut [u8]) -> u64
+    ensures { IsCopiedFrom (option_map body_of (ended_of outcome.content)) from out.old out.new result }
+{
     // proof: the type of the links
     name_link::<HostLink>();
     let mut object = outcome.into_box();
-    let copied = body_of(&mut object, from, out);
+    let copied = object.read_body(from, out);
     leave(object);
-    copied
+    copied as u64
 }
 
 /// Ends an outcome.

@@ -1,4 +1,8 @@
 //! What a handle leads to.
+ghost use Rattle.std.specs.Prelude.{◌≡◌, Some, option_copied, option_map};
+ghost use Rattle.mx_embedded.specs.Contents.{IsCopiedFrom, body_of};
+ghost use Rattle.mx_c.specs.Answers.{ended_of};
+ghost use Rattle.mx_c.specs.declared.objects.Object.TheVariants as object;
 
 use mx_embedded::{Ended, HostLink, SocketMulti};
 use mx_link::Link;
@@ -26,8 +30,36 @@ impl Drop for Object {
 }
 
 impl Object {
+    /// The outcome that it is, if it is one.
+    pub(crate) fn ended(&self) -> Option<&Ended>
+        ensures { option_copied result ≡ ended_of self.now }
+    {
+        // proof: the type of the links
+        name_link::<HostLink>();
+        match self {
+            Object::Outcome(Some(ended)) => Some(ended),
+            Object::Outcome(None) => None,
+            Object::Multi(_) => None,
+        }
+    }
+
+    /// Copies of the body of the outcome that it is, if it is one.
+    pub(crate) fn read_body(&mut self, from: u64, out: &mut [u8]) -> usize
+        ensures { IsCopiedFrom (option_map body_of (ended_of self.old)) from out.old out.new result }
+    {
+        // proof: the type of the links
+        name_link::<HostLink>();
+        match self {
+            Object::Outcome(Some(ended)) => ended.read_body(from, out),
+            Object::Outcome(None) => 0,
+            Object::Multi(_) => 0,
+        }
+    }
+
     /// Has it be an outcome.
-    pub(crate) fn put(&mut self, ended: Ended) {
+    pub(crate) fn put(&mut self, ended: Ended)
+        ensures { self.new ≡ object.Outcome (Some ended) }
+    {
         // proof: the type of the links
         name_link::<HostLink>();
         let before = mem::replace(self, Object::Outcome(Some(ended)));
