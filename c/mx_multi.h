@@ -86,8 +86,8 @@ typedef struct mx_how {
 } mx_how;
 
 /* Adds a handle, a number of the caller's, with its transfer. method: GET, HEAD, POST, PUT, DELETE or OPTIONS. url: text of an http URL
- * without a user name or a password. fields: lines "Name: value\r\n", 64 at most; User-Agent is one of them; Host, Content-Length,
- * Transfer-Encoding and the like are the engine's. body: at most 1,048,576 bytes.
+ * without a user name or a password. fields: lines "Name: value\r\n", 64 at most, of which white space around a value is no part;
+ * User-Agent is one of them; Host, Content-Length, Transfer-Encoding and the like are the engine's. body: at most 1,048,576 bytes.
  * MXM_OK: *ticket numbers this addition. MXM_BAD_ARGUMENT: *refused is the CURLcode of the refusal: 1 the scheme or the method, 3 the URL
  * or a field, 63 the body. Nothing was added but with MXM_OK. */
 mx_mcode mx_multi_add(mx_multi multi, uint32_t handle, const void *method, size_t method_len, const void *url, size_t url_len,

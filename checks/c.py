@@ -125,4 +125,7 @@ wanted = f"ftp://x/: refused with 1\n{url}/here: code 0, status 200, 10240 bytes
 say("the example in C", "" if sorted(ran.stdout.splitlines()) == sorted(wanted.splitlines()) else ran.stdout)
 ran = subprocess.run([sys.executable, f"{top}/c/examples/get.py", f"{url}/here"], capture_output=True, timeout=60)
 say("the example in Python", "" if ran.stdout == SMALL and ran.returncode == 0 else ran.stderr.decode(errors="replace"))
+if os.path.exists(f"{work}/get-rust"):
+    ran = run([f"{work}/get-rust", f"{url}/here"])
+    say("the example in Rust", "" if ran.stdout == "code 0, status 200, 10240 bytes\n" and ran.returncode == 0 else ran.stdout)
 sys.exit(1 if failed else 0)

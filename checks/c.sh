@@ -2,8 +2,8 @@
 # The library for C programs: builds c/libmx.a and libmx.so.0 from the archive of crates/mx_c, compares the names that they have with those
 # of mx_multi.h, compiles that header as C99 and as C++, and runs programs over it against servers on 127.0.0.1: each call, under valgrind
 # too, with SIGPIPE watched and beside a child; transfers with each growth of memory refused in turn; ten thousand through one handle that
-# is never idle; the examples in C and Python. Prints a line for each, and ends with 1 where one isn't as expected, with 2 where something
-# that it needs isn't there.
+# is never idle; the examples in C and Python, and in Rust where there is rustc. Prints a line for each, and ends with 1 where one isn't as
+# expected, with 2 where something that it needs isn't there.
 #
 #     checks/c.sh [ARCHIVE]    after `rt ci`, or with the archive of crates/mx_c
 #
@@ -29,5 +29,8 @@ cc -std=gnu99 $flags -o "$work/get" "$top/c/examples/get.c" "$work/usr/lib/libmx
 for program in calls many; do
     cc -std=gnu99 $flags -o "$work/$program" "$top/checks/c/$program.c" "$work/usr/lib/libmx.a"
 done
+if command -v rustc > /dev/null; then
+    rustc --edition 2021 -D warnings -L "$work/usr/lib" -o "$work/get-rust" "$top/c/examples/get.rs"
+fi
 cc -O2 -shared -fPIC -o "$work/refuse.so" "$top/checks/refuse.c" -ldl
 exec python3 -B "$top/checks/c.py" "$work" "$top"
