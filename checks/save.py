@@ -1139,18 +1139,20 @@ def case_ten_thousand_urls():
 # rule file-names-size
 def case_names_in_memory():
     # a URL that is skipped leaves its name behind, and nothing else
-    peaks, into = {}, folder()
-    names = [f"n{number:07}" for number in range(60_000)]
+    held, into, note = {}, folder(), os.path.join(WORK, "held")
+    names = [f"n{number:023}" for number in range(60_000)]
     for name in names:
         os.close(os.open(os.path.join(into, name), os.O_WRONLY | os.O_CREAT))
     for count in (10_000, 60_000):
-        run = Saved(["--skip-existing"], into, [f"http://127.0.0.1:1/{name}" for name in names[:count]])
+        run = Saved(["--skip-existing"], into, [f"http://127.0.0.1:1/{name}" for name in names[:count]],
+                    asked={"COUNT_MEMORY": note, "LD_PRELOAD": os.path.join(WORK, "count.so")})
         want(run.status == 0 and len(run.lines) == count, f"exit status {run.status}, {len(run.lines)} lines")
-        peaks[count] = run.peak
-    each = (peaks[60_000] - peaks[10_000]) / 50_000
-    print(f"    a name of {len(names[0])} bytes takes {each:.0f}")
-    # 64 beside its text in a list in order, which fills the nodes least; and what the allocator adds to the text and to the nodes
-    want(each < len(names[0]) + 64 + 56, f"a name of {len(names[0])} bytes takes {each:.0f}")
+        with open(note, "rb") as file:
+            held[count] = int.from_bytes(file.read(), sys.byteorder)
+    each = (held[60_000] - held[10_000]) / 50_000
+    print(f"    a name of {len(names[0])} bytes takes {each:.1f}")
+    # 64 beside its text in a list in order, which fills the nodes least; and what the allocator adds to the nodes
+    want(each < len(names[0]) + 64 + 2, f"a name of {len(names[0])} bytes takes {each:.1f}")
 
 
 def case_short_history():

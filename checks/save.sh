@@ -22,5 +22,7 @@ export RES_OPTIONS='timeout:1 attempts:1' # a name server that can't be reached 
 work=$(mktemp -d)
 chmod 755 "$work" # nginx's workers run as another user
 trap 'rm -rf "$work"' EXIT
-cc -O2 -shared -fPIC -o "$work/refuse.so" "$top/checks/refuse.c"
+for library in refuse count; do
+    cc -O2 -shared -fPIC -o "$work/$library.so" "$top/checks/$library.c"
+done
 PROGRAM=$PROGRAM WORK=$work python3 -B "$top/checks/save.py" "$@"
