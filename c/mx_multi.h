@@ -94,6 +94,12 @@ mx_mcode mx_multi_add(mx_multi multi, uint32_t handle, const void *method, size_
                       const void *fields, size_t fields_len, const void *body, size_t body_len, const mx_how *how,
                       uint32_t *ticket, mx_code *refused);
 
+/* Has connections to a host be opened at addresses of the caller's, in their order, in place of those that stood for it: the host isn't
+ * looked up. host: as the field Host has it, without a port, in any case. addresses: text, IPv4 or IPv6 without brackets, with a comma
+ * between any two; the port is the URL's. Without an address the host is looked up again. Connections that are open stay, and serve
+ * transfers that follow. MXM_BAD_ARGUMENT: a piece between commas is no address, or one of the texts isn't UTF-8. */
+mx_mcode mx_multi_resolve(mx_multi multi, const void *host, size_t host_len, const void *addresses, size_t addresses_len);
+
 /* Removes a handle, whether its transfer runs, is done or was read: no message of it comes any more. Its connection closes at the next
  * mx_multi_perform. MXM_OK, also where it isn't added. */
 mx_mcode mx_multi_remove(mx_multi multi, uint32_t handle);
@@ -102,9 +108,9 @@ mx_mcode mx_multi_remove(mx_multi multi, uint32_t handle);
 mx_mcode mx_multi_pause(mx_multi multi, uint32_t handle);
 mx_mcode mx_multi_unpause(mx_multi multi, uint32_t handle);
 
-/* Goes on with all transfers as far as that is possible without a wait, but for the lookup of a host's name, which blocks. At most 64
- * transfers are under way at a time; the others follow in the order of their additions. *running: how many transfers aren't done,
- * those that are paused among them. */
+/* Goes on with all transfers as far as that is possible without a wait, but for the lookup of a host's name, which blocks: mx_multi_resolve
+ * saves a caller that. At most 64 transfers are under way at a time; the others follow in the order of their additions. *running: how many
+ * transfers aren't done, those that are paused among them. */
 mx_mcode mx_multi_perform(mx_multi multi, uint32_t *running);
 
 /* The descriptor to wait for: it can be read where mx_multi_perform has something to do. It is the multi handle's own. */

@@ -147,6 +147,7 @@ static void changes(mx_multi multi, const char *small, const char *silent) {
   IS(mx_multi_fd(no_multi), -1);
   IS(mx_outcome_end(no_outcome, &end), MXM_BAD_ARGUMENT);
   IS(mx_outcome_body(no_outcome, 0, bytes, 64), 0);
+  IS(mx_multi_resolve(no_multi, "a", 1, "127.0.0.1", 9), MXM_BAD_ARGUMENT);
   mx_outcome_close(outcome);
 }
 
@@ -170,6 +171,40 @@ static void copies(mx_multi multi, const char *url) {
   IS(mx_outcome_body(outcome, sizeof whole, piece, 64), 0);
   IS(mx_multi_remove(multi, 3), MXM_OK);
   mx_outcome_close(outcome);
+}
+
+static mx_mcode resolve(mx_multi multi, const char *host, const char *addresses) {
+  return mx_multi_resolve(multi, host, strlen(host), addresses, strlen(addresses));
+}
+
+/* hosts that no name server has, at addresses of the caller's: the first of them answers on no port, the second does */
+static void resolves(const char *port) {
+  mx_multi multi = {NULL};
+  char url[99], other[99];
+  snprintf(url, sizeof url, "http://Given.Invalid:%s/small", port);
+  snprintf(other, sizeof other, "http://other.invalid:%s/small", port);
+  IS(mx_multi_open(64, 0, &multi.at), MXM_OK);
+  IS(resolve(multi, "given.invalid", "127.0.0.1,"), MXM_BAD_ARGUMENT);
+  IS(resolve(multi, "given.invalid", "127.0.0.1:80"), MXM_BAD_ARGUMENT);
+  IS(resolve(multi, "given.invalid", "[::1]"), MXM_BAD_ARGUMENT);
+  IS(resolve(multi, "given.invalid", "localhost"), MXM_BAD_ARGUMENT);
+  IS(resolve(multi, "given.invalid", "127.0.0.1, 127.0.0.1"), MXM_BAD_ARGUMENT);
+  IS(resolve(multi, "given\xff", "127.0.0.1"), MXM_BAD_ARGUMENT);
+  ends(multi, "GET", url, 0, 6, 0, 1, 0);
+  IS(resolve(multi, "GIVEN.invalid", "::1,127.0.0.1"), MXM_OK);
+  ends(multi, "GET", url, 0, 0, 200, 1, 10240);
+  ends(multi, "GET", other, 0, 6, 0, 1, 0);
+  IS(resolve(multi, "given.invalid", "127.0.0.2"), MXM_OK);
+  ends(multi, "GET", url, 0, 7, 0, 1, 0);
+  IS(resolve(multi, "given.invalid", "127.0.0.1"), MXM_OK);
+  IS(resolve(multi, "other.invalid", "127.0.0.1"), MXM_OK);
+  ends(multi, "GET", url, 0, 0, 200, 1, 10240);
+  ends(multi, "GET", other, 0, 0, 200, 1, 10240);
+  IS(resolve(multi, "given.invalid", ""), MXM_OK);
+  IS(resolve(multi, "given.invalid", ""), MXM_OK);
+  ends(multi, "GET", url, 0, 6, 0, 1, 0);
+  ends(multi, "GET", other, 0, 0, 200, 1, 10240);
+  mx_multi_close(multi);
 }
 
 /* an eventfd of the caller's ends a wait for the descriptor */
@@ -248,6 +283,7 @@ int main(int argc, char **argv) {
   snprintf(cut, sizeof cut, "http://127.0.0.1:%s/", argv[3]);
   mx_multi multi = {NULL};
   opens();
+  resolves(argv[1]);
   IS(mx_multi_open(64, 8, &multi.at), MXM_OK);
   refuses(multi, small);
   ends(multi, "GET", small, 0, 0, 200, 1, 10240);

@@ -1,8 +1,11 @@
 -- What the exports answer, by the object that a handle leads to.
-use Rattle.std.specs.Prelude.{◌≡◌, ◌^◌, ◌-◌, ◌++◌, ◌⊎◌, ℕ, ℤ, pos, negsuc, List, ◌∷◌, Option, Some, None, Result, Ok, Err, bit_and, if◌then◌else◌, nat_eq, drop, length, map, min, take}
+use Rattle.std.specs.Prelude.{◌≡◌, ◌≤◌, ◌^◌, ◌-◌, ◌++◌, ◌⊎◌, ℕ, ℤ, pos, negsuc, List, ◌∷◌, Option, Some, None, Result, Ok, Err, bit_and, if◌then◌else◌, nat_eq, drop, length, map, min, take}
 use Rattle.std.specs.List.{All, slice_get}
 use Rattle.std.specs.Option.{option_map_or}
+use Rattle.std.specs.Char.{to_ascii_lowercase}
+use Rattle.std.specs.declared.net.SocketAddr.{SocketAddr}
 use Rattle.mx_types.specs.Code.{code_number}
+use Rattle.mx_types.specs.declared.code.Code.{Code}
 use Rattle.mx_types.specs.declared.names.HandleId.{HandleId}
 use Rattle.mx_types.specs.declared.names.Ticket.{Ticket}
 use Rattle.mx_types.specs.declared.call.Call.{Call}
@@ -26,6 +29,8 @@ use Rattle.mx_solo.specs.Seats.{CalledAt, IsAdded, OneCore, Performs, SoloView, 
 use Rattle.mx_c.specs.declared.structs.mx_message.{mx_message}
 use Rattle.mx_c.specs.declared.structs.mx_state.{mx_state}
 use Rattle.mx_embedded.specs.Contents.{body_of}
+use Rattle.mx_embedded.specs.Hosts.{AreAddressesIn, CantBeResolved, HostsValue, Puts, table_of}
+use Rattle.mx_embedded.specs.Multis.{gate_in}
 use Rattle.mx_c.specs.declared.objects.Object.{Object}
 use Rattle.mx_c.specs.declared.objects.Object.TheVariants as object
 use Rattle.mx_c.specs.declared.structs.mx_end.{mx_end}
@@ -68,11 +73,22 @@ pub record Adds {L : Type 0} (handle : ℕ) (request : RequestValue) (before tic
   pub told : IsTicketTold reply before ticket
   pub number : n ≡ multi_number (reply_code (reply_of_add reply))
 
--- The answer to an addition of such a request: 3 where memory for it is refused, 110 where there is none; else it was added. 110 of an outcome.
-abbrev pub AnswersAdd : ℕ → (RequestValue → Type 0) → Object → ℕ → ℕ → ℕ → Type 0
-AnswersAdd handle IsAsked (object.Multi m) before ticket n =
-    (n ≡ 3) ⊎ ((n ≡ 110) ⊎ ((request : RequestValue) × IsAsked request × ((after : OneCore _) × Adds handle request before ticket m.solo.core after n)))
-AnswersAdd handle IsAsked (object.Outcome ended) before ticket n = n ≡ 110
+-- The answer to an addition. 3: memory for it is refused. 110: the words are refused, with the code that is told. Else a request that they give
+-- was added. In the first two no ticket is told, and but for the second no code. 110 of an outcome.
+abbrev pub AnswersAdd : ℕ → (RequestValue → Type 0) → (Code → Type 0) → Object → ℕ → ℕ → ℕ → ℕ → ℕ → Type 0
+AnswersAdd handle IsAsked Refuses (object.Multi m) before ticket was why n =
+    ((n ≡ 3) × (ticket ≡ before) × (why ≡ was))
+    ⊎ (((n ≡ 110) × (ticket ≡ before) × ((c : Code) × Refuses c × (why ≡ code_number c)))
+    ⊎ ((request : RequestValue) × IsAsked request × ((after : OneCore _) × Adds handle request before ticket m.solo.core after n) × (why ≡ was)))
+AnswersAdd handle IsAsked Refuses (object.Outcome ended) before ticket was why n = (n ≡ 110) × (ticket ≡ before) × (why ≡ was)
+
+-- The answer where a host is resolved: 0, and the addresses that the text has stand for it, in lower case; 3 where memory is refused; 110 where
+-- the two say nothing. 110 of an outcome.
+abbrev pub AnswersResolve : List ℕ → List ℕ → Object → ℕ → Type 0
+AnswersResolve host text (object.Multi m) n =
+    ((n ≡ 0) × ((addresses : List SocketAddr) × AreAddressesIn text addresses × ((after : HostsValue) × Puts (table_of m.hosts) (map to_ascii_lowercase host) addresses (table_of after))))
+    ⊎ ((n ≡ 3) ⊎ ((n ≡ 110) × CantBeResolved host text))
+AnswersResolve host text (object.Outcome ended) n = n ≡ 110
 
 -- the message that was read is told; 111 where there is none
 abbrev pub IsMessageTold : InfoReply OutcomeValue → mx_message → mx_message → ℕ → Type 0
@@ -104,7 +120,7 @@ AnswersRead (object.Outcome ended) before after n = ((n ≡ 3) ⊎ (n ≡ 110)) 
 -- The answer to `perform`: turns were taken, and it is told how many transfers run then. 110 of an outcome.
 abbrev pub AnswersPerform : Object → ℕ → ℕ → ℕ → Type 0
 AnswersPerform (object.Multi m) before running_now n =
-    (n ≡ 0) × ((solo : SoloView _) × (said : List Said) × Performs (λ link. link.history) (λ link. link.link.token) m.solo solo m.gate.said said
+    (n ≡ 0) × ((solo : SoloView _) × (said : List Said) × Performs (λ link. link.history) (λ link. link.link.token) m.solo solo (gate_in m.gate).said said
     × (running_now ≡ length (running solo.core.journal)))
 AnswersPerform (object.Outcome ended) before running_now n = (n ≡ 110) × (running_now ≡ before)
 
@@ -113,10 +129,10 @@ abbrev pub wait_number : Option ℕ → ℤ
 wait_number (Some ms) = pos (min ms (2 ^ 63 - 1))
 wait_number None = negsuc 0
 
--- it is as long as no deadline of a transfer in flight comes, from a moment on; -1 of an outcome
+-- It is as long as no deadline of a transfer in flight comes, from a moment on that isn't before the latest that the gate told. -1 of an outcome.
 abbrev pub AnswersTimeout : Object → ℤ → Type 0
 AnswersTimeout (object.Multi m) n =
-    (wait : Option ℕ) × (latest : ℕ) × All (λ h. WaitsNoLonger wait latest h.transfer.now.deadline) m.solo.worker.held × (n ≡ wait_number wait)
+    (wait : Option ℕ) × (latest : ℕ) × ((gate_in m.gate).latest ≤ latest) × All (λ h. WaitsNoLonger wait latest h.transfer.now.deadline) m.solo.worker.held × (n ≡ wait_number wait)
 AnswersTimeout (object.Outcome ended) n = n ≡ negsuc 0
 
 -- a number that isn't known

@@ -1,17 +1,20 @@
 //! What the exports do, with what their handles lead to.
-ghost use Rattle.std.specs.Prelude.{◌≡◌, ◌++◌, ◌⊎◌, ℕ, Option, IfErr, IfOk, drop, length, map, option_copied, take};
+ghost use Rattle.std.specs.Prelude.{◌≡◌, ◌≤◌, ◌++◌, ◌⊎◌, ℕ, Option, IfErr, IfOk, drop, length, map, option_copied, take};
 ghost use Rattle.std.specs.List.{All};
 ghost use Rattle.mx_request.specs.Request.{RequestValue};
 ghost use Rattle.mx_history.specs.Answers.{state_of};
 ghost use Rattle.mx_history.specs.History.{added};
 ghost use Rattle.mx_solo.specs.Seats.{WaitsNoLonger};
-ghost use Rattle.mx_embedded.specs.Words.{IsRequestOf};
-ghost use Rattle.mx_c.specs.Answers.{Adds, AnswersRead, AnswersTimeout, IsFirstEnding, IsTicketTold, Reads, body_by, result_number, told_state, wait_number};
+ghost use Rattle.mx_types.specs.Code.{code_number};
+ghost use Rattle.mx_types.specs.declared.code.Code.{Code as OneCode};
+ghost use Rattle.mx_embedded.specs.Multis.{gate_in};
+ghost use Rattle.mx_embedded.specs.Words.{IsRequestOf, RefusesWords};
+ghost use Rattle.mx_c.specs.Answers.{Adds, AnswersAdd, AnswersRead, AnswersResolve, AnswersTimeout, IsFirstEnding, IsTicketTold, Reads, body_by, result_number, told_state, wait_number};
 
-use crate::codes::{BAD_ARGUMENT, EMPTY, OUT_OF_MEMORY, code_of_add, told_state, wait_number};
-use crate::objects::{Object, name_link};
+use crate::codes::{BAD_ARGUMENT, EMPTY, OK, OUT_OF_MEMORY, code_of_add, told_state, wait_number};
+use crate::objects::Object;
 use crate::structs::{mx_how, mx_message, mx_state};
-use mx_embedded::{Ended, HostLink, SocketMulti, Words, request_of};
+use mx_embedded::{Ended, HostLink, SocketMulti, Words, name_link, request_of};
 use mx_journal::{AddReply, InfoReply};
 use mx_request::Request;
 use mx_transfer_core::Queued;
@@ -70,7 +73,7 @@ fn add(
     request: Request,
     ticket: &mut u32,
 ) -> u32
-    ensures { (result ≡ 3) ⊎ Adds handle request ticket.old ticket.new multi.old.solo.core multi.new.solo.core result }
+    ensures { ((result ≡ 3) × (ticket.new ≡ ticket.old)) ⊎ Adds handle request ticket.old ticket.new multi.old.solo.core multi.new.solo.core result }
 {
     match Queued::new(alloc, request) {
         Ok(work) => {
@@ -111,8 +114,8 @@ pub(crate) fn words_of<'b>(
     }
 }
 
-/// Builds the request, and adds its transfer.
-pub(crate) fn build_and_add(
+// Builds the request, and adds its transfer.
+fn build_and_add(
     alloc: Global,
     multi: &mut SocketMulti,
     handle: u32,
@@ -120,9 +123,13 @@ pub(crate) fn build_and_add(
     ticket: &mut u32,
     refused: &mut u32,
 ) -> u32
-    ensures { (result ≡ 3) ⊎ ((result ≡ 110) ⊎ ((request : RequestValue)
+    ensures { ((result ≡ 3) × (ticket.new ≡ ticket.old) × (refused.new ≡ refused.old))
+        ⊎ (((result ≡ 110) × (ticket.new ≡ ticket.old) × ((c : OneCode)
+        × RefusesWords words.entry.method.now words.entry.url.now words.entry.fields.now (option_copied words.entry.body) words.entry.timeout_ms words.entry.max_redirects c
+        × (refused.new ≡ code_number c)))
+        ⊎ ((request : RequestValue)
         × IsRequestOf words.entry.method.now words.entry.url.now words.entry.fields.now (option_copied words.entry.body) words.entry.timeout_ms words.entry.max_redirects request
-        × Adds handle request ticket.old ticket.new multi.old.solo.core multi.new.solo.core result)) }
+        × Adds handle request ticket.old ticket.new multi.old.solo.core multi.new.solo.core result × (refused.new ≡ refused.old))) }
 {
     // proof: the type of the links
     name_link::<HostLink>();
@@ -133,6 +140,45 @@ pub(crate) fn build_and_add(
             *refused = code.number();
             BAD_ARGUMENT
         }
+    }
+}
+
+/// The same to the multi handle that it is.
+#[tactic(auto, using(crate::proofs::AnswerLemmas::added))]
+pub(crate) fn add_to(
+    alloc: Global,
+    object: &mut Object,
+    handle: u32,
+    words: Words<'_>,
+    ticket: &mut u32,
+    refused: &mut u32,
+) -> u32
+    ensures { AnswersAdd handle
+        (IsRequestOf words.entry.method.now words.entry.url.now words.entry.fields.now (option_copied words.entry.body) words.entry.timeout_ms words.entry.max_redirects)
+        (RefusesWords words.entry.method.now words.entry.url.now words.entry.fields.now (option_copied words.entry.body) words.entry.timeout_ms words.entry.max_redirects)
+        object.old ticket.old ticket.new refused.old refused.new result }
+{
+    // proof: the type of the links
+    name_link::<HostLink>();
+    match object {
+        Object::Multi(multi) => build_and_add(alloc, multi, handle, words, ticket, refused),
+        Object::Outcome(_) => BAD_ARGUMENT,
+    }
+}
+
+/// Has links to a host be opened at the addresses that the text has.
+pub(crate) fn resolve(alloc: Global, object: &mut Object, host: &[u8], addresses: &[u8]) -> u32
+    ensures { AnswersResolve host.now addresses.now object.old result }
+{
+    // proof: the type of the links
+    name_link::<HostLink>();
+    match object {
+        Object::Multi(multi) => match multi.resolve(alloc, host, addresses) {
+            Ok(()) => OK,
+            Err(Code::OutOfMemory) => OUT_OF_MEMORY,
+            Err(_) => BAD_ARGUMENT,
+        },
+        Object::Outcome(_) => BAD_ARGUMENT,
     }
 }
 
@@ -211,7 +257,7 @@ pub(crate) fn state_of(multi: &SocketMulti, handle: u32) -> mx_state
 
 // How many milliseconds a wait may last; -1 where nothing but the descriptor ends it.
 fn wait_of(multi: &mut SocketMulti) -> i64
-    ensures { (wait : Option ℕ) × (latest : ℕ) × All (λ h. WaitsNoLonger wait latest h.transfer.now.deadline) multi.old.solo.worker.held × (result ≡ wait_number wait) }
+    ensures { (wait : Option ℕ) × (latest : ℕ) × ((gate_in multi.old.gate).latest ≤ latest) × All (λ h. WaitsNoLonger wait latest h.transfer.now.deadline) multi.old.solo.worker.held × (result ≡ wait_number wait) }
 {
     // proof: the type of the links
     name_link::<HostLink>();

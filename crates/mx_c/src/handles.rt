@@ -2,8 +2,8 @@
 ghost use Rattle.std.specs.Prelude.{◌≡◌};
 ghost use Rattle.mx_c.specs.declared.objects.Object.{Object};
 
-use crate::objects::{Object, name_link};
-use mx_embedded::HostLink;
+use crate::objects::Object;
+use mx_embedded::{HostLink, name_link};
 use mx_raw_box::RawBox;
 use std::alloc::Global;
 use std::marker::Model;

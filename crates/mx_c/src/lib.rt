@@ -6,8 +6,8 @@ ghost use Rattle.std.specs.Option.{option_map_or};
 ghost use Rattle.mx_chain.specs.Outcomes.{wire_at};
 ghost use Rattle.mx_embedded.specs.Contents.{AreHeadsCopied, IsCopiedFrom, body_of, request_at};
 ghost use Rattle.mx_types.specs.declared.call.Call.TheVariants as call;
-ghost use Rattle.mx_embedded.specs.Words.{IsRequestOf};
-ghost use Rattle.mx_c.specs.Answers.{AnswersAdd, AnswersCall, AnswersPerform, AnswersRead, AnswersTimeout, IsEndOf, TellsHandles, TellsState, body_by, ended_of, status_at};
+ghost use Rattle.mx_embedded.specs.Words.{IsRequestOf, RefusesWords};
+ghost use Rattle.mx_c.specs.Answers.{AnswersAdd, AnswersCall, AnswersPerform, AnswersRead, AnswersResolve, AnswersTimeout, IsEndOf, TellsHandles, TellsState, body_by, ended_of, status_at};
 
 mod calls;
 mod codes;
@@ -16,14 +16,14 @@ mod objects;
 mod outcomes;
 mod structs;
 
-use crate::calls::{build_and_add, handles_of, open, read_boxed, state_of, timeout_of, words_of};
+use crate::calls::{add_to, handles_of, open, read_boxed, resolve, state_of, timeout_of, words_of};
 use crate::codes::{BAD_ARGUMENT, OK, code_of_pause, code_of_remove};
 use crate::handles::leave;
 pub use crate::handles::{Handle, Opaque};
-use crate::objects::{Object, name_link};
+use crate::objects::Object;
 use crate::outcomes::{end_of, status_of};
 pub use crate::structs::{mx_end, mx_how, mx_message, mx_state};
-use mx_embedded::HostLink;
+use mx_embedded::{HostLink, name_link};
 use mx_types::HandleId;
 use std::alloc::Global;
 
@@ -85,16 +85,34 @@ pub extern "C" fn mx_multi_add(
     ticket: &mut u32,
     refused: &mut u32,
 ) -> u32
-    ensures { AnswersAdd handle (IsRequestOf method.now url.now fields.now (body_by how.now.flags body.now) how.now.timeout_ms how.now.max_redirects) multi.content ticket.old ticket.new result }
+    ensures { AnswersAdd handle (IsRequestOf method.now url.now fields.now (body_by how.now.flags body.now) how.now.timeout_ms how.now.max_redirects)
+        (RefusesWords method.now url.now fields.now (body_by how.now.flags body.now) how.now.timeout_ms how.now.max_redirects)
+        multi.content ticket.old ticket.new refused.old refused.new result }
 {
     // proof: the type of the links
     name_link::<HostLink>();
     let mut object = multi.into_box();
     let words = words_of(method, url, fields, body, how);
-    let code = match &mut *object {
-        Object::Multi(multi) => build_and_add(alloc, multi, handle, words, ticket, refused),
-        Object::Outcome(_) => BAD_ARGUMENT,
-    };
+    let code = add_to(alloc, &mut object, handle, words, ticket, refused);
+    leave(object);
+    code
+}
+
+/// Has links to a host be opened at addresses of the caller's, which are text with a comma between any two; none has the host be looked up
+/// again.
+#[unsafe(no_mangle)]
+pub extern "C" fn mx_multi_resolve(
+    alloc: Global,
+    multi: Handle,
+    host: &[u8],
+    addresses: &[u8],
+) -> u32
+    ensures { AnswersResolve host.now addresses.now multi.content result }
+{
+    // proof: the type of the links
+    name_link::<HostLink>();
+    let mut object = multi.into_box();
+    let code = resolve(alloc, &mut object, host, addresses);
     leave(object);
     code
 }
@@ -173,7 +191,7 @@ pub extern "C" fn mx_multi_fd(multi: Handle) -> i32 {
     name_link::<HostLink>();
     let object = multi.into_box();
     let descriptor = match &*object {
-        Object::Multi(multi) => multi.gate.descriptor(),
+        Object::Multi(multi) => multi.descriptor(),
         Object::Outcome(_) => -1,
     };
     leave(object);

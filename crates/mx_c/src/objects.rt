@@ -4,8 +4,7 @@ ghost use Rattle.mx_embedded.specs.Contents.{IsCopiedFrom, body_of};
 ghost use Rattle.mx_c.specs.Answers.{ended_of};
 ghost use Rattle.mx_c.specs.declared.objects.Object.TheVariants as object;
 
-use mx_embedded::{Ended, HostLink, SocketMulti};
-use mx_link::Link;
+use mx_embedded::{Ended, HostLink, SocketMulti, name_link};
 use std::mem;
 
 /// A multi handle, or an outcome. There is no outcome in one whose memory was asked for before its message was read.
@@ -13,9 +12,6 @@ pub enum Object {
     Multi(SocketMulti),
     Outcome(Option<Ended>),
 }
-
-/// Names the links of a multi handle. It does nothing: the prover reads a type where a function names it.
-pub(crate) fn name_link<L: Link>() {}
 
 // Written out, and not derived, so that what drops one cites its proof.
 impl Drop for Object {

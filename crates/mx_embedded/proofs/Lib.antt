@@ -1,3 +1,4 @@
 mod LineLemmas
 mod PieceLemmas
 mod Reading
+mod TableLemmas

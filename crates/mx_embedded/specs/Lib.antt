@@ -1,2 +1,4 @@
 pub mod Contents
+pub mod Hosts
+pub mod Multis
 pub mod Words

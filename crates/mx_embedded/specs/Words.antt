@@ -1,12 +1,16 @@
 -- What a request's bytes mean: its header fields in lines, its body, and its numbers.
-use Rattle.std.specs.Prelude.{◌≡◌, ◌<◌, ◌==◌, ◌⊎◌, ◌++◌, ℕ, Bool, true, false, List, [], ◌∷◌, Option, Some, None, bytes_eq, codes, length, map, min}
-use Rattle.std.specs.List.{after_first, before_first, position_or_len, slice_split}
+use Rattle.std.specs.Prelude.{IsUtf8, ◌≡◌, ◌≢◌, ◌<◌, ◌==◌, ◌⊎◌, ◌++◌, ℕ, Bool, true, false, List, [], ◌∷◌, Option, Some, None, Err, bytes_eq, codes, length, map, min}
+use Rattle.std.specs.List.{Contains, after_first, before_first, position_or_len, slice_split}
 use Rattle.std.specs.Str.{IsTrimAscii}
 use Rattle.std.specs.Char.{to_ascii_lowercase}
 use Rattle.mx_types.specs.Method.{method_name}
 use Rattle.mx_types.specs.Settings.{Field, SettingsValue, no_settings}
+use Rattle.mx_types.specs.declared.code.Code.{Code}
+use Rattle.mx_types.specs.declared.code.Code.TheVariants as code
 use Rattle.mx_types.specs.declared.method.Method.{Method}
-use Rattle.mx_request.specs.Request.{RequestValue, IsBuiltFrom}
+use Rattle.mx_request.specs.Request.{RequestValue, IsBuiltFrom, request_of}
+use Rattle.mx_request.specs.RequestError.{refusal_code}
+use Rattle.mx_request.specs.declared.error.RequestError.{RequestError}
 
 -- a line feed, which ends a line, and a colon
 abbrev pub is_line_feed : ℕ → Bool
@@ -61,3 +65,35 @@ pub record IsRequestOf (name text lines : List ℕ) (body : Option (List ℕ)) (
   pub named : name ≡ method_name method
   pub set : AreSettings lines body timeout_ms max_redirects settings
   pub built : IsBuiltFrom method text settings request
+
+-- the line has something but white space, and no colon
+pub record HasNoField (line : List ℕ) : Type 0 where
+  pub trimmed : List ℕ
+  pub trims : IsTrimAscii line trimmed
+  pub filled : trimmed ≢ []
+  pub no_colon : position_or_len is_colon line ≡ length line
+
+-- The lines are no fields: they aren't UTF-8, or one has no colon.
+abbrev pub AreNoFields : List ℕ → Type 0
+AreNoFields lines = (¬ (IsUtf8 lines)) ⊎ ((line : List ℕ) × Contains (lines_of lines) line × HasNoField line)
+
+-- no request can be built of what the words mean; the code is that of the refusal
+pub record CantBeBuilt (name text lines : List ℕ) (body : Option (List ℕ)) (timeout_ms max_redirects : ℕ) (c : Code) : Type 0 where
+  pub method : Method
+  pub settings : SettingsValue
+  pub why : RequestError
+  pub named : name ≡ method_name method
+  pub set : AreSettings lines body timeout_ms max_redirects settings
+  pub refused : request_of method text settings ≡ Err why
+  pub told : c ≡ refusal_code why
+
+-- no method has that name (the six names are ASCII)
+abbrev pub NamesNone : List ℕ → Type 0
+NamesNone name = (¬ (IsUtf8 name)) ⊎ ((m : Method) → name ≢ method_name m)
+
+-- Why words are refused, and the code that says so: 27 where memory is refused; 1 where no method has that name; 3 where the URL isn't UTF-8 or
+-- the lines are no fields; else that of what no request can be built of.
+abbrev pub RefusesWords : List ℕ → List ℕ → List ℕ → Option (List ℕ) → ℕ → ℕ → Code → Type 0
+RefusesWords name text lines body timeout_ms max_redirects c =
+    (c ≡ code.OutOfMemory) ⊎ (((c ≡ code.UnsupportedProtocol) × NamesNone name) ⊎ (((c ≡ code.UrlMalformat) × ((¬ (IsUtf8 text)) ⊎ AreNoFields lines))
+    ⊎ CantBeBuilt name text lines body timeout_ms max_redirects c))

@@ -1,8 +1,9 @@
 //! Header fields from lines `Name: value`.
-ghost use Rattle.std.specs.Prelude.{◌≡◌, ◌<◌, [], ◌∷◌, length, IfErr, IfOk, IfSome, MatchOption, string_bytes};
+ghost use Rattle.std.specs.Prelude.{◌≡◌, ◌<◌, ◌⊎◌, ℕ, List, [], ◌∷◌, length, IfErr, IfOk, IfSome, MatchOption, string_bytes};
+ghost use Rattle.std.specs.List.{Contains, position_or_len};
 ghost use Rattle.mx_types.specs.Settings.{Field};
 ghost use Rattle.mx_types.specs.declared.code.Code.TheVariants as code;
-ghost use Rattle.mx_embedded.specs.Words.{ArePut, IsFieldOf, IsPut, lines_of, names_user_agent, with_field};
+ghost use Rattle.mx_embedded.specs.Words.{ArePut, HasNoField, IsFieldOf, IsPut, is_colon, lines_of, names_user_agent, with_field};
 
 use mx_types::{Code, Settings};
 use std::alloc::Global;
@@ -55,7 +56,7 @@ fn put_field(settings: &mut Settings, name: String, value: String) -> Result<(),
 
 // The field of a line, if that has a colon: its name, and its value.
 fn field_of(line: &str) -> Option<(&str, &str)>
-    ensures { IfSome result (λ f. IsFieldOf line.now (record { name = f.0.now; value = f.1.now })) }
+    ensures { MatchOption result (position_or_len is_colon line.now ≡ length line.now) (λ f. IsFieldOf line.now (record { name = f.0.now; value = f.1.now })) }
 {
     let (name, value) = line.split_once(':')?;
     Some((name, value.trim_ascii()))
@@ -63,7 +64,8 @@ fn field_of(line: &str) -> Option<(&str, &str)>
 
 // Puts in the field of a line, unless the line is empty but for white space.
 fn put_line(alloc: Global, settings: &mut Settings, line: &str) -> Result<(), Code>
-    ensures { IfOk result (λ _. IsPut line.now settings.old settings.new) }
+    ensures put { IfOk result (λ _. IsPut line.now settings.old settings.new) }
+    ensures refused { IfErr result (λ c. (c ≡ code.OutOfMemory) ⊎ ((c ≡ code.UrlMalformat) × HasNoField line.now)) }
 {
     if line.trim_ascii().is_empty() {
         return Ok(());
@@ -73,8 +75,7 @@ fn put_line(alloc: Global, settings: &mut Settings, line: &str) -> Result<(), Co
     };
     let name = copy_text(alloc, name)?;
     let value = copy_text(alloc, value)?;
-    put_field(settings, name, value)?;
-    Ok(())
+    put_field(settings, name, value)
 }
 
 // The first line, and what is behind it, where there is a line feed.
@@ -89,13 +90,15 @@ fn cut_line(text: &str) -> Option<(&str, &str)>
 /// Puts in the field of each line: lines end with LF or CRLF, the last one with nothing, too, and empty ones are passed over. A line without
 /// a colon is refused with the code of a field that can't be sent.
 pub(crate) fn put_fields(alloc: Global, settings: &mut Settings, lines: &str) -> Result<(), Code>
-    ensures { IfOk result (λ _. ArePut (lines_of lines.now) settings.old settings.new) }
+    ensures put { IfOk result (λ _. ArePut (lines_of lines.now) settings.old settings.new) }
+    ensures refused { IfErr result (λ c. (c ≡ code.OutOfMemory) ⊎ ((c ≡ code.UrlMalformat) × ((line : List ℕ) × Contains (lines_of lines.now) line × HasNoField line))) }
 {
     let mut rest = lines;
     while let Some((line, after)) = cut_line(rest) {
-        put_line(alloc, settings, line)?;
-        rest = after;
+        match put_line(alloc, settings, line) {
+            Ok(()) => rest = after,
+            Err(code) => return Err(code),
+        }
     }
-    put_line(alloc, settings, rest)?;
-    Ok(())
+    put_line(alloc, settings, rest)
 }

@@ -1,6 +1,7 @@
 //! Requests from bytes.
-ghost use Rattle.std.specs.Prelude.{IfOk, option_copied};
-ghost use Rattle.mx_embedded.specs.Words.{AreSettings, IsRequestOf};
+ghost use Rattle.std.specs.Prelude.{◌≡◌, ◌⊎◌, IfErr, IfOk, option_copied};
+ghost use Rattle.mx_types.specs.declared.code.Code.TheVariants as code;
+ghost use Rattle.mx_embedded.specs.Words.{AreNoFields, AreSettings, IsRequestOf, RefusesWords};
 
 use crate::fields::{copy_bytes, put_fields};
 use mx_request::Request;
@@ -24,7 +25,8 @@ pub struct Words<'b> {
 
 // The settings of a request.
 fn settings_of(alloc: Global, words: Words<'_>) -> Result<Settings, Code>
-    ensures { IfOk result (AreSettings words.entry.fields.now (option_copied words.entry.body) words.entry.timeout_ms words.entry.max_redirects) }
+    ensures set { IfOk result (AreSettings words.entry.fields.now (option_copied words.entry.body) words.entry.timeout_ms words.entry.max_redirects) }
+    ensures refused { IfErr result (λ c. (c ≡ code.OutOfMemory) ⊎ ((c ≡ code.UrlMalformat) × AreNoFields words.entry.fields.now)) }
 {
     let Ok(fields) = std::str::from_utf8(words.fields) else {
         return Err(Code::UrlMalformat);
@@ -43,9 +45,10 @@ fn settings_of(alloc: Global, words: Words<'_>) -> Result<Settings, Code>
 /// The request, by `Request::build`, with the URL in the text.
 ///
 /// Where it can't be built the error is the code of `RequestError`; `UnsupportedProtocol` where the method is none of the six, `UrlMalformat`
-/// where the URL or the fields aren't UTF-8, or a line of the fields has no colon.
+/// where the URL or the fields aren't UTF-8, or a line of the fields has no colon; `OutOfMemory` in place of any where memory is refused.
 pub fn request_of(alloc: Global, words: Words<'_>) -> Result<Request, Code>
-    ensures { IfOk result (IsRequestOf words.entry.method.now words.entry.url.now words.entry.fields.now (option_copied words.entry.body) words.entry.timeout_ms words.entry.max_redirects) }
+    ensures built { IfOk result (IsRequestOf words.entry.method.now words.entry.url.now words.entry.fields.now (option_copied words.entry.body) words.entry.timeout_ms words.entry.max_redirects) }
+    ensures refused { IfErr result (RefusesWords words.entry.method.now words.entry.url.now words.entry.fields.now (option_copied words.entry.body) words.entry.timeout_ms words.entry.max_redirects) }
 {
     let Ok(Ok(method)) = std::str::from_utf8(words.method).map(|text| text.parse::<Method>()) else {
         return Err(Code::UnsupportedProtocol);
