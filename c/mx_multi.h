@@ -165,6 +165,10 @@ uint64_t mx_outcome_heads(mx_outcome outcome, uint32_t hop, uint64_t from, void 
 uint64_t mx_outcome_wire(mx_outcome outcome, uint32_t hop, uint64_t from, void *out, size_t room);
 uint64_t mx_outcome_body(mx_outcome outcome, uint64_t from, void *out, size_t room);
 
+/* Tells where a part of the same body lies, and how long it is: nothing is copied. Parts are counted from 0, and joined they are the body:
+ * one where its length was told, else one for each chunk. *at stands until the outcome is closed. MXM_EMPTY after the last. */
+mx_mcode mx_outcome_part(mx_outcome outcome, uint32_t part, const uint8_t **at, uint64_t *len);
+
 /* Ends an outcome. It may outlive its multi handle. */
 void mx_outcome_close(mx_outcome outcome);
 

@@ -147,6 +147,7 @@ static void changes(mx_multi multi, const char *small, const char *silent) {
   IS(mx_multi_fd(no_multi), -1);
   IS(mx_outcome_end(no_outcome, &end), MXM_BAD_ARGUMENT);
   IS(mx_outcome_body(no_outcome, 0, bytes, 64), 0);
+  IS(mx_outcome_part(no_outcome, 0, &(const uint8_t *){NULL}, &(uint64_t){0}), MXM_EMPTY);
   IS(mx_multi_resolve(no_multi, "a", 1, "127.0.0.1", 9), MXM_BAD_ARGUMENT);
   mx_outcome_close(outcome);
 }
@@ -169,6 +170,28 @@ static void copies(mx_multi multi, const char *url) {
   for (uint64_t from = sizeof whole; from > 0; from -= 37 > from ? from : 37)
     IS(mx_outcome_body(outcome, from, piece, 1), from < sizeof whole);
   IS(mx_outcome_body(outcome, sizeof whole, piece, 64), 0);
+  IS(mx_multi_remove(multi, 3), MXM_OK);
+  mx_outcome_close(outcome);
+}
+
+/* the parts of the body, joined, are its copy */
+static void parts(mx_multi multi, const char *url, uint32_t count) {
+  mx_code refused = 0;
+  mx_message message;
+  mx_outcome outcome = {NULL};
+  static unsigned char whole[10240];
+  const uint8_t *at = NULL;
+  uint64_t len = 0, joined = 0;
+  uint32_t part = 0;
+  IS(add(multi, 3, "GET", url, "", NULL, 0, 0, &refused), MXM_OK);
+  IS(until(multi, &message, &outcome, 500), 1);
+  if (outcome.at == NULL) return;
+  IS(mx_outcome_body(outcome, 0, whole, sizeof whole), sizeof whole);
+  for (; mx_outcome_part(outcome, part, &at, &len) == MXM_OK; part++, joined += len)
+    if (joined + len > sizeof whole || memcmp(at, whole + joined, len)) { IS(part, -1); break; }
+  IS(part, count);
+  IS(joined, sizeof whole);
+  IS(mx_outcome_part(outcome, UINT32_MAX, &at, &len), MXM_EMPTY);
   IS(mx_multi_remove(multi, 3), MXM_OK);
   mx_outcome_close(outcome);
 }
@@ -298,6 +321,8 @@ int main(int argc, char **argv) {
   changes(multi, small, silent);
   copies(multi, small);
   copies(multi, chunked);
+  parts(multi, small, 1);
+  parts(multi, chunked, 11);
   IS(mx_multi_retire(multi), MXM_OK);
   sends(multi, cut);
   if (argc == 4) forks(multi, small);

@@ -1,5 +1,5 @@
 -- What the exports answer, by the object that a handle leads to.
-use Rattle.std.specs.Prelude.{◌≡◌, ◌≤◌, ◌^◌, ◌-◌, ◌++◌, ◌⊎◌, ℕ, ℤ, pos, negsuc, List, ◌∷◌, Option, Some, None, Result, Ok, Err, bit_and, if◌then◌else◌, nat_eq, drop, length, map, min, take}
+use Rattle.std.specs.Prelude.{◌≡◌, ◌≤◌, ◌^◌, ◌-◌, ◌++◌, ◌⊎◌, ℕ, ℤ, pos, negsuc, List, ◌∷◌, Option, Some, None, Result, Ok, Err, bit_and, if◌then◌else◌, nat_eq, drop, length, map, min, option_map, slice_range, take}
 use Rattle.std.specs.List.{All, slice_get}
 use Rattle.std.specs.Option.{option_map_or}
 use Rattle.std.specs.Char.{to_ascii_lowercase}
@@ -89,6 +89,10 @@ AnswersResolve host text (object.Multi m) n =
     ((n ≡ 0) × ((addresses : List SocketAddr) × AreAddressesIn text addresses × ((after : HostsValue) × Puts (table_of m.hosts) (map to_ascii_lowercase host) addresses (table_of after))))
     ⊎ ((n ≡ 3) ⊎ ((n ≡ 110) × CantBeResolved host text))
 AnswersResolve host text (object.Outcome ended) n = n ≡ 110
+
+-- the bytes of a part of the body, counted from 0
+abbrev pub part_at : OutcomeValue → ℕ → Option (List ℕ)
+part_at o i = option_map (λ p. slice_range o.wire p.start p.end) (slice_get o.parts i)
 
 -- the message that was read is told; 111 where there is none
 abbrev pub IsMessageTold : InfoReply OutcomeValue → mx_message → mx_message → ℕ → Type 0

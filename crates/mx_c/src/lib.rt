@@ -1,27 +1,30 @@
 //! The multi handle on one thread, for C: what c/mx_multi.h declares.
 #![tactic(auto)]
 
-ghost use Rattle.std.specs.Prelude.{◌≡◌, MatchOption, option_map};
+ghost use Rattle.std.specs.Prelude.{◌≡◌, MatchOption, length, option_map};
+ghost use Rattle.std.specs.Option.{option_and_then};
 ghost use Rattle.std.specs.Option.{option_map_or};
 ghost use Rattle.mx_chain.specs.Outcomes.{wire_at};
 ghost use Rattle.mx_embedded.specs.Contents.{AreHeadsCopied, IsCopiedFrom, body_of, request_at};
 ghost use Rattle.mx_types.specs.declared.call.Call.TheVariants as call;
 ghost use Rattle.mx_embedded.specs.Words.{IsRequestOf, RefusesWords};
-ghost use Rattle.mx_c.specs.Answers.{AnswersAdd, AnswersCall, AnswersPerform, AnswersRead, AnswersResolve, AnswersTimeout, IsEndOf, TellsHandles, TellsState, body_by, ended_of, status_at};
+ghost use Rattle.mx_c.specs.Answers.{AnswersAdd, AnswersCall, AnswersPerform, AnswersRead, AnswersResolve, AnswersTimeout, IsEndOf, TellsHandles, TellsState, body_by, ended_of, part_at, status_at};
 
 mod calls;
 mod codes;
 mod handles;
 mod objects;
 mod outcomes;
+mod pointers;
 mod structs;
 
 use crate::calls::{add_to, handles_of, open, read_boxed, resolve, state_of, timeout_of, words_of};
-use crate::codes::{BAD_ARGUMENT, OK, code_of_pause, code_of_remove};
+use crate::codes::{BAD_ARGUMENT, EMPTY, OK, code_of_pause, code_of_remove};
 use crate::handles::leave;
 pub use crate::handles::{Handle, Opaque};
 use crate::objects::Object;
 use crate::outcomes::{end_of, status_of};
+use crate::pointers::pointer_to;
 pub use crate::structs::{mx_end, mx_how, mx_message, mx_state};
 use mx_embedded::{HostLink, name_link};
 use mx_types::HandleId;
@@ -364,6 +367,31 @@ pub extern "C" fn mx_outcome_body(outcome: Handle, from: u64, out: &mut [u8]) ->
     let copied = object.read_body(from, out);
     leave(object);
     copied as u64
+}
+
+/// Tells where a part of the body lies, and how long it is.
+#[unsafe(no_mangle)]
+pub extern "C" fn mx_outcome_part(
+    outcome: Handle,
+    part: u32,
+    at: &mut *const u8,
+    len: &mut u64,
+) -> u32
+    ensures { MatchOption (option_and_then (λ o. part_at o part) (ended_of outcome.content)) ((result ≡ 111) × (len.new ≡ len.old)) (λ bytes. (result ≡ 0) × (len.new ≡ length bytes)) }
+{
+    // proof: the type of the links
+    name_link::<HostLink>();
+    let object = outcome.into_box();
+    let code = match object.part(part) {
+        Some(bytes) => {
+            *at = pointer_to(bytes);
+            *len = bytes.len() as u64;
+            OK
+        }
+        None => EMPTY,
+    };
+    leave(object);
+    code
 }
 
 /// Ends an outcome.

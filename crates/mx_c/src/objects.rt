@@ -1,7 +1,8 @@
 //! What a handle leads to.
 ghost use Rattle.std.specs.Prelude.{◌≡◌, Some, option_copied, option_map};
+ghost use Rattle.std.specs.Option.{option_and_then};
 ghost use Rattle.mx_embedded.specs.Contents.{IsCopiedFrom, body_of};
-ghost use Rattle.mx_c.specs.Answers.{ended_of};
+ghost use Rattle.mx_c.specs.Answers.{ended_of, part_at};
 ghost use Rattle.mx_c.specs.declared.objects.Object.TheVariants as object;
 
 use mx_embedded::{Ended, HostLink, SocketMulti, name_link};
@@ -34,6 +35,19 @@ impl Object {
         name_link::<HostLink>();
         match self {
             Object::Outcome(Some(ended)) => Some(ended),
+            Object::Outcome(None) => None,
+            Object::Multi(_) => None,
+        }
+    }
+
+    /// A part of the body of the outcome that it is, if it is one: counted from 0.
+    pub(crate) fn part(&self, part: u32) -> Option<&[u8]>
+        ensures { option_copied result ≡ option_and_then (λ o. part_at o part) (ended_of self.now) }
+    {
+        // proof: the type of the links
+        name_link::<HostLink>();
+        match self {
+            Object::Outcome(Some(ended)) => ended.outcome().part(part as usize),
             Object::Outcome(None) => None,
             Object::Multi(_) => None,
         }
